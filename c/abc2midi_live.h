@@ -56,8 +56,8 @@ typedef struct abc_live_session {
 } abc_live_session;
 
 /*
- * Counters of work: lines scanned, steps folded, tunes built. They are yours: set them to zeros, and each edit adds its work. An
- * edit that runs out of memory may add to them too; one that is refused for another reason adds nothing. A counter that reaches
+ * Counters of work: lines scanned, steps folded, tunes built. They are yours: set them to zeros, and each edit and each call of
+ * `abc_live_tokens` adds its work. An edit that runs out of memory may add to them too; one that is refused for another reason adds nothing. A counter that reaches
  * UINT64_MAX stays there. One struct may serve several sessions, if their edits are not at the same time.
  */
 typedef struct abc_live_work {
@@ -265,8 +265,8 @@ abc_live_code abc_live_tracks(abc_live_session *session, uint32_t number, size_t
  * the voices with a track play more than 1,000,000 notes, chords, rests, fields, programs and bar lines together.
  *
  * An entry begins where the one before it ends, and the tones of a chord begin together. After a voice that is shorter than its part the
- * next entry begins with the next part. An entry with `on` equal to `off` is not in the file. The sound of a tied tone ends with
- * the last tone that is joined with it.
+ * next entry begins with the next part. The sound of a tied tone ends with the last tone that is joined
+ * with it, even if an earlier one has a later end. A sound that begins and ends at one tick is not in the file.
  */
 abc_live_code abc_live_play(abc_live_session *session, uint32_t number, abc_live_entry *entries, size_t room, size_t *count);
 

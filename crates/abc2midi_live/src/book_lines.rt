@@ -21,7 +21,7 @@ pub fn without_mark(bytes: &[u8]) -> &[u8]
     }
 }
 
-/// Returns the lines of a tune book.
+/// Returns the lines of a tune book. It returns an error if an allocation fails.
 #[tactic(auto, unfolding(crate::specs::Transcript::book_lines))]
 pub fn book_lines(alloc: Global, book: &[u8]) -> Result<Vec<Vec<u8>>, AllocError>
     ensures { IfOk result (λ lines. text_of lines ≡ book_lines book.now) }

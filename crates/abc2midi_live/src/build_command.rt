@@ -120,7 +120,8 @@ fn store_next<S: Store>(
     }
 }
 
-/// Puts and removes the files of the pending numbers, rising, up to the first fault of the store, and returns the answer.
+/// Puts and removes the files of the pending numbers, rising, up to the first fault of the store, and returns the answer. It
+/// returns an error if an allocation fails.
 pub fn build<S: Store>(
     alloc: Global,
     publisher: &mut Publisher,

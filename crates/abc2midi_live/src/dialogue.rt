@@ -42,7 +42,7 @@ pub struct Dialogue {
 impl Dialogue {
     ghost use Rattle.abc2midi_live.specs.DialogueState.{ProceedsBy, view_of};
 
-    /// No command has come yet.
+    /// No command has come yet. It returns an error if an allocation fails.
     pub fn new(alloc: Global) -> Result<Dialogue, AllocError>
         ensures session { IfOk result (λ d. d.session.text ≡ []) }
         ensures directory { IfOk result (λ d. (maps_of d.publisher).directory ≡ no_directory) }
@@ -72,7 +72,7 @@ impl Dialogue {
         }
     }
 
-    /// Puts the lines of a tune book before line 1, and returns the answer.
+    /// Puts the lines of a tune book before line 1, and returns the answer. It returns an error if an allocation fails.
     pub fn take_book(&mut self, book: &[u8], work: &mut Work) -> Result<Vec<u8>, AllocError>
         ensures answer { IfOk result (λ text. text.items ≡ edit_answer self.old.session.text
             (edited self.old.session.text (insertion 1 (book_lines book.now)))) }

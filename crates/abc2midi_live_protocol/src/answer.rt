@@ -29,7 +29,7 @@ fn put_numbers(text: &mut Vec<u8>, numbers: &[u32]) -> Result<(), AllocError>
     Ok(())
 }
 
-/// Returns the answer to an accepted edit.
+/// Returns the answer to an accepted edit. It returns an error if an allocation fails.
 #[tactic(auto, unfolding(crate::specs::Answer::report_line))]
 pub fn report_line(alloc: Global, report: &Report) -> Result<Vec<u8>, AllocError>
     ensures { IfOk result (λ text. text.items ≡ report_line report.now.written.items report.now.removed.items) }
@@ -72,7 +72,7 @@ fn put_fault(text: &mut Vec<u8>, fault: &Fault) -> Result<(), AllocError>
     Ok(())
 }
 
-/// Returns the faults of a text, a line each, and `end`.
+/// Returns the faults of a text, a line each, and `end`. It returns an error if an allocation fails.
 #[tactic(auto, unfolding(crate::specs::Answer::fault_list))]
 pub fn fault_list(alloc: Global, faults: &[Fault]) -> Result<Vec<u8>, AllocError>
     ensures { IfOk result (λ text. text.items ≡ fault_list faults.now) }
@@ -96,7 +96,7 @@ fn put_title(text: &mut Vec<u8>, title: &Title) -> Result<(), AllocError>
     Ok(())
 }
 
-/// Returns the titles of a text, a line for each tune, and `end`.
+/// Returns the titles of a text, a line for each tune, and `end`. It returns an error if an allocation fails.
 #[tactic(auto, unfolding(crate::specs::Answer::title_list))]
 pub fn title_list(alloc: Global, titles: &[Title]) -> Result<Vec<u8>, AllocError>
     ensures { IfOk result (λ text. text.items ≡ title_list titles.now) }
@@ -109,7 +109,8 @@ pub fn title_list(alloc: Global, titles: &[Title]) -> Result<Vec<u8>, AllocError
     Ok(text)
 }
 
-/// Returns the bytes of a file in upper-case hexadecimal on one line, or `none` if there is no file.
+/// Returns the bytes of a file in upper-case hexadecimal on one line, or `none` if there is no file. It returns an error if an
+/// allocation fails.
 #[tactic(auto, unfolding(crate::specs::Answer::hex_line))]
 pub fn hex_line(alloc: Global, bytes: Option<&[u8]>) -> Result<Vec<u8>, AllocError>
     ensures { IfOk result (λ text. text.items ≡ hex_line (option_map (λ b. b.now) bytes.entry)) }

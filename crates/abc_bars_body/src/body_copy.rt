@@ -118,7 +118,7 @@ impl Model for BodyCopy {
 }
 
 impl BodyCopy {
-    /// A copy of a body.
+    /// A copy of a body. It returns an error if an allocation fails.
     pub fn of(body: &Shared<Body>) -> Result<BodyCopy, AllocError>
         ensures { IfOk result (λ copy. copy ≡ body.now) }
     {
@@ -128,7 +128,7 @@ impl BodyCopy {
         })
     }
 
-    /// A copy that owns this body.
+    /// A copy that owns this body. It returns an error if an allocation fails.
     pub fn own(alloc: Global, body: Body) -> Result<BodyCopy, AllocError>
         ensures { IfOk result (λ copy. copy ≡ body) }
     {
@@ -141,7 +141,7 @@ impl BodyCopy {
     /// The state of the current voice.
     #[inline(always)]
     #[tactic(auto, using(crate::proofs::HereLaws::here_written))]
-    pub(crate) fn here(&self) -> &VoiceState
+    pub fn here(&self) -> &VoiceState
         ensures { result.now ≡ here self.now }
     {
         match &self.storage {
@@ -244,7 +244,7 @@ impl BodyCopy {
         )
     }
 
-    /// The entry of this body. A body that is surely unchanged is shared.
+    /// The entry of this body. A body that is surely unchanged is shared. It returns an error if an allocation fails.
     pub fn into_entry(self, alloc: Global) -> Result<Entry, AllocError>
         ensures { IfOk result (λ entry. entry ≡ Entry.Body self) }
     {

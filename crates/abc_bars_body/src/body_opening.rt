@@ -59,8 +59,8 @@ fn opening_voices(
     Ok(voices)
 }
 
-/// The state at the beginning of a body, by its header and the key that ended it. The first declared voice is the current
-/// one; if there is none, the one without a name.
+/// The state at the beginning of a body, by its header and the key that ended it. The first declared voice is the current one;
+/// if there is none, the one without a name. It returns an error if an allocation fails.
 pub fn body_from(alloc: Global, header: &Header, key: &Key) -> Result<Body, AllocError>
     ensures { IfOk result (λ body. body ≡ body_from header.now key.now) }
 {

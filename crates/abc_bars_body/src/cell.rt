@@ -78,11 +78,12 @@ pub struct CellResult {
 }
 
 impl CellResult {
-    /// Returns the result before the first token of a cell, with room for `room` items.
-    fn new(alloc: Global, body: BodyCopy, room: usize) -> Result<CellResult, AllocError>
+    /// Returns the result before the first token of this cell, with room for its items. It returns an error if an allocation
+    /// fails.
+    pub fn new(alloc: Global, body: BodyCopy, cell: &[Token]) -> Result<CellResult, AllocError>
         ensures { IfOk result (λ given. given ≡ empty_cell_result body) }
     {
-        let items = ItemsBuilder::with_capacity(alloc, room)?;
+        let items = ItemsBuilder::with_capacity(alloc, room_for(cell))?;
         Ok(CellResult {
             body,
             items,
@@ -381,9 +382,15 @@ impl CellResult {
         }
     }
 
-    /// Adds a token; `ahead` are those after it in its cell. Most tokens are notes, so they are tried first.
+    /// Adds a token; `ahead` are those after it in its cell. Most tokens are notes, so they are tried first. It returns an
+    /// error if an allocation fails.
     #[inline(always)]
-    fn add_token(&mut self, alloc: Global, token: &Token, ahead: &[Token]) -> Result<(), AllocError>
+    pub fn add_token(
+        &mut self,
+        alloc: Global,
+        token: &Token,
+        ahead: &[Token],
+    ) -> Result<(), AllocError>
         ensures { OnOk result (self.new ≡ with_token self.old token.now ahead.now) }
     {
         let place = token.from as usize;
@@ -414,11 +421,11 @@ impl CellResult {
     }
 }
 
-/// Reads a cell in a body: the state after it, its items and its faults.
+/// Reads a cell in a body: the state after it, its items and its faults. It returns an error if an allocation fails.
 pub fn cell_result(alloc: Global, body: BodyCopy, cell: &[Token]) -> Result<CellResult, AllocError>
     ensures { IfOk result (λ given. given ≡ cell_result body cell.now) }
 {
-    let mut result = CellResult::new(alloc, body, room_for(cell))?;
+    let mut result = CellResult::new(alloc, body, cell)?;
     result.add_tokens(alloc, cell)?;
     Ok(result)
 }

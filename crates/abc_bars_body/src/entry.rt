@@ -25,7 +25,7 @@ pub enum Entry {
 }
 
 impl Entry {
-    /// The state in a tune's header.
+    /// The state in a tune's header. It returns an error if an allocation fails.
     pub fn in_header(alloc: Global, header: Header) -> Result<Entry, AllocError>
         ensures { IfOk result (λ entry. entry ≡ Entry.Header header) }
     {
@@ -33,7 +33,7 @@ impl Entry {
         Ok(Entry::Header(header))
     }
 
-    /// The state in a tune's body.
+    /// The state in a tune's body. It returns an error if an allocation fails.
     pub fn in_body(alloc: Global, body: Body) -> Result<Entry, AllocError>
         ensures { IfOk result (λ entry. entry ≡ Entry.Body body) }
     {

@@ -34,8 +34,8 @@ fn file_header_line_result(
     })
 }
 
-/// Reads a field of the file header: M:, L: and Q: set defaults for all tunes, and no other field has an effect or a
-/// fault.
+/// Reads a field of the file header: M:, L: and Q: set defaults for all tunes, and no other field has an effect or a fault. It
+/// returns an error if an allocation fails.
 pub fn file_header_result(
     alloc: Global,
     defaults: Defaults,
@@ -50,7 +50,7 @@ pub fn file_header_result(
     )
 }
 
-/// Reads a directive of the file header, which sets a default for all tunes.
+/// Reads a directive of the file header, which sets a default for all tunes. It returns an error if an allocation fails.
 pub fn file_header_directive_result(
     alloc: Global,
     defaults: Defaults,

@@ -360,7 +360,7 @@ fn header_line_result(
 }
 
 /// Reads a field of a header. Its own item comes first, then the tempo and meter with which the tune begins if its header ends
-/// after it. An X: also adds the program of the file header.
+/// after it. An X: also adds the program of the file header. It returns an error if an allocation fails.
 pub fn header_result(
     alloc: Global,
     header: Header,
@@ -376,7 +376,7 @@ pub fn header_result(
 }
 
 /// Reads a directive of a header. Its own item comes first, then the tempo and meter with which the tune begins if its header
-/// ends after it.
+/// ends after it. It returns an error if an allocation fails.
 pub fn header_directive_result(
     alloc: Global,
     header: Header,

@@ -32,7 +32,7 @@ impl Model for VoiceName {
 }
 
 impl VoiceName {
-    /// The name with these bytes.
+    /// The name with these bytes. It returns an error if an allocation fails.
     pub fn new(alloc: Global, bytes: &[u8]) -> Result<VoiceName, AllocError>
         ensures { IfOk result (λ name. name ≡ bytes.now) }
     {

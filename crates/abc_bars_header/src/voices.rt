@@ -108,7 +108,7 @@ impl<S> Voices<S> {
         &mut self.known[at]
     }
 
-    /// Adds a voice at the end.
+    /// Adds a voice at the end. It returns an error if an allocation fails.
     pub fn push(&mut self, name: VoiceName, known: S) -> Result<(), AllocError>
     where
         S: Drop,

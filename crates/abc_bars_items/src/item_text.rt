@@ -22,7 +22,7 @@ impl Model for ItemText {
 }
 
 impl ItemText {
-    /// A copy of these bytes.
+    /// A copy of these bytes. It returns an error if an allocation fails.
     pub fn new(alloc: Global, bytes: &[u8]) -> Result<ItemText, AllocError>
         ensures { IfOk result (λ text. text ≡ bytes.now) }
     {

@@ -24,7 +24,7 @@ impl Model for Items {
 }
 
 impl Items {
-    /// The items and faults of a builder.
+    /// The items and faults of a builder. It returns an error if an allocation fails.
     pub fn new(alloc: Global, lists: ItemsBuilder) -> Result<Items, AllocError>
         ensures { IfOk result (λ items. items ≡ lists) }
     {
@@ -47,7 +47,7 @@ impl Items {
         self.lists.get().faults()
     }
 
-    /// A copy, which shares the lists.
+    /// A copy, which shares the lists. It returns an error if an allocation fails.
     pub fn share(&self) -> Result<Items, AllocError>
         ensures { IfOk result (λ copy. copy ≡ self.now) }
     {

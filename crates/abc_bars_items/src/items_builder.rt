@@ -27,7 +27,7 @@ impl Model for ItemsBuilder {
 }
 
 impl ItemsBuilder {
-    /// A builder without items and faults, with room for `items` items.
+    /// A builder without items and faults, with room for `items` items. It returns an error if an allocation fails.
     pub fn with_capacity(alloc: Global, items: usize) -> Result<ItemsBuilder, AllocError>
         ensures { IfOk result (λ builder. builder ≡ no_items) }
     {
@@ -64,7 +64,8 @@ impl ItemsBuilder {
         self.faults.as_slice()
     }
 
-    /// Adds an item at the end. Most items have room, and then no function is called.
+    /// Adds an item at the end. Most items have room, and then no function is called. It returns an error if an allocation
+    /// fails.
     #[inline(always)]
     pub fn push_item(&mut self, item: Item) -> Result<(), AllocError>
         requires { IsItem item }
@@ -79,7 +80,7 @@ impl ItemsBuilder {
         Ok(())
     }
 
-    /// Adds a fault at the end.
+    /// Adds a fault at the end. It returns an error if an allocation fails.
     pub fn push_fault(&mut self, fault: LocalFault) -> Result<(), AllocError>
         ensures ok { OnOk result (self.new ≡ append_faults self.old (fault ∷ [])) }
         ensures unchanged { OnErr result (self.new ≡ self.old) }
@@ -88,7 +89,7 @@ impl ItemsBuilder {
         Ok(())
     }
 
-    /// Adds faults at the end.
+    /// Adds faults at the end. It returns an error if an allocation fails.
     pub fn push_faults(&mut self, more: &[LocalFault]) -> Result<(), AllocError>
         ensures ok { OnOk result (self.new ≡ append_faults self.old more.now) }
         ensures unchanged { OnErr result (self.new ≡ self.old) }
@@ -97,7 +98,8 @@ impl ItemsBuilder {
         Ok(())
     }
 
-    /// Adds an item and its faults at the end. It makes room for the item first, so that no fault is added without it.
+    /// Adds an item and its faults at the end. It makes room for the item first, so that no fault is added without it. It
+    /// returns an error if an allocation fails.
     pub fn push_with_faults(&mut self, item: Item, faults: &[LocalFault]) -> Result<(), AllocError>
         requires { IsItem item }
         ensures ok { OnOk result (self.new ≡ append_item (append_faults self.old faults.now) item) }

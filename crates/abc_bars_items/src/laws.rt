@@ -2,7 +2,8 @@
 
 ghost use Rattle.abc_bars_items.specs.Velocity.{VelocitiesDiffer};
 
-/// No two dynamics have the same velocity, and none has that of notes without one: the velocity determines the dynamic.
+/// No two dynamics have the same velocity, and none has that of notes without one: the velocity determines the dynamic (ABC 2.1
+/// section 4.14).
 pub fn velocities_of_dynamics()
     ensures { VelocitiesDiffer }
 {}

@@ -60,7 +60,7 @@ impl Tones {
         }
     }
 
-    /// These tones.
+    /// These tones. It returns an error if an allocation fails.
     pub fn of(alloc: Global, tones: ShortSequence<Tone>) -> Result<Tones, AllocError>
         ensures { IfOk result (λ made. made ≡ tones) }
     {

@@ -15,6 +15,7 @@ mod time_tokens;
 pub use bar_rest::bar_rest_of;
 pub use broken::{BrokenFactors, Preceding, is_bad_mark, preceding_after};
 pub use chords::ChordContext;
+pub use pitch::key_of;
 pub use role::{TokenRole, has_note, token_role};
 pub use sound::{ChordBuilder, NoteContext};
 pub use time_tokens::{NotePlace, play_chord, play_note, play_rest, play_steady_note};

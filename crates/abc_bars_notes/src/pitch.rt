@@ -70,7 +70,7 @@ fn midi_key(pitch: i128) -> Option<u8>
 
 /// The MIDI key of a note with this alteration, if MIDI has it. Few voices are shifted, which takes 128 bits.
 #[inline(always)]
-pub(crate) fn key_of(shift: VoiceShift, note: Note, by: i8) -> Option<u8>
+pub fn key_of(shift: VoiceShift, note: Note, by: i8) -> Option<u8>
     ensures value { result ≡ midi_key (pitch_of shift note by) }
     ensures range { IfSome result (λ key. key ≤ HIGHEST_KEY) }
 {

@@ -211,8 +211,8 @@ fn played_note_at(
     played_note_of(state, &state.accidentals, broken, context, note)
 }
 
-/// Adds a note if it surely leaves the state of its voice as it is, and returns whether it did. Most notes do. The test
-/// comes first, since it makes the rest cheaper.
+/// Adds a note if it surely leaves the state of its voice as it is, and returns whether it did. Most notes do. The test comes
+/// first, since it makes the rest cheaper. It returns an error if an allocation fails.
 #[inline(always)]
 pub fn play_steady_note(
     state: &VoiceState,
@@ -237,7 +237,8 @@ pub fn play_steady_note(
     Ok(true)
 }
 
-/// Adds a note, also if it changes the state of its voice. Few notes do, so it is not inlined into what each note runs.
+/// Adds a note, also if it changes the state of its voice. Few notes do, so it is not inlined into what each note runs. It
+/// returns an error if an allocation fails.
 #[inline(never)]
 pub fn play_note(
     alloc: Global,
@@ -286,7 +287,7 @@ fn push_empty_chord(
     Ok(())
 }
 
-/// Adds a chord: one without a note takes no time.
+/// Adds a chord: one without a note takes no time. It returns an error if an allocation fails.
 pub fn play_chord(
     alloc: Global,
     state: &mut VoiceState,
@@ -335,7 +336,7 @@ fn push_rest(
     }
 }
 
-/// Adds a rest at a place of its line, counted from 0 (ABC 2.1 section 4.5).
+/// Adds a rest at a place of its line, counted from 0 (ABC 2.1 section 4.5). It returns an error if an allocation fails.
 pub fn play_rest(
     alloc: Global,
     state: &mut VoiceState,

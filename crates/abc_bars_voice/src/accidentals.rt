@@ -201,7 +201,7 @@ impl Accidentals {
         }
     }
 
-    /// Adds the accidental of a note after the others.
+    /// Adds the accidental of a note after the others. It returns an error if an allocation fails.
     pub fn set(&mut self, note: Note, by: i8) -> Result<(), AllocError>
         ensures ok { OnOk result (self.new ≡ with_accidental self.old note by) }
         ensures unchanged { OnErr result (self.new ≡ self.old) }

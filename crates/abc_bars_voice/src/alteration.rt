@@ -50,7 +50,7 @@ pub fn alteration_of(state: &VoiceState, accidentals: &Accidentals, note: Note) 
     alteration(&state.signature, note.letter)
 }
 
-/// Adds a note's own accidental, if it has one, after the others.
+/// Adds a note's own accidental, if it has one, after the others. It returns an error if an allocation fails.
 pub fn write_own(accidentals: &mut Accidentals, note: Note) -> Result<(), AllocError>
     ensures ok { OnOk result (accidentals.new ≡ with_own accidentals.old note) }
     ensures unchanged { OnErr result (accidentals.new ≡ accidentals.old) }

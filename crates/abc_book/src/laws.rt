@@ -3,20 +3,20 @@
 ghost use Rattle.abc_book.specs.Laws.{OnePass, EachLineInOneBlock, NoBlankInABlock, AnXLineCuts, BlocksRise, XLinesBeginTunes};
 ghost use Rattle.abc_book.specs.Stretch.{AStretchIsEnough};
 
-/// One pass over the lines finds the blocks of the rules.
+/// One pass over the lines finds the blocks of the rules (ABC 2.1 section 2.2).
 #[tactic(auto, using(crate::proofs::OnePass::one_pass))]
 pub fn one_pass()
     ensures { OnePass }
 {}
 
-/// Every line that is neither a comment nor blank lies in exactly one block, and a blank line in none.
+/// Every line that is neither a comment nor blank lies in exactly one block, and a blank line in none (ABC 2.1 section 2.2).
 #[tactic(auto, using(crate::proofs::Lying::each_in_one, crate::proofs::Lying::no_blank_in))]
 pub fn each_line_in_one_block()
     ensures one { EachLineInOneBlock }
     ensures none { NoBlankInABlock }
 {}
 
-/// An X: line cuts a text in two: the lines before it and from it on are independent.
+/// An X: line cuts a text in two: the lines before it and from it on are independent (ABC 2.1 section 3.1.1).
 #[tactic(auto, using(crate::proofs::Cuts::x_line_cuts))]
 pub fn an_x_line_cuts()
     ensures { AnXLineCuts }

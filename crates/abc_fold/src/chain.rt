@@ -202,7 +202,7 @@ impl<F: Fold> ChainPatch<F> {
         self.next.items(i)
     }
 
-    /// Drops the patch. The chain that it was prepared on does not change.
+    /// Drops the patch. The chain that it was prepared on does not change. It returns an error if an allocation fails.
     pub fn drop_patch(self) {
         let ChainPatch { on: _, next: _ } = self;
     }

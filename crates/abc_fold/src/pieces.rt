@@ -38,7 +38,7 @@ impl<F: Fold> Pieces<F> {
         }
     }
 
-    /// An empty list with room for `room` pieces.
+    /// An empty list with room for `room` pieces. It returns an error if an allocation fails.
     pub fn with_capacity(alloc: Global, room: usize) -> Result<Pieces<F>, AllocError>
         ensures { IfOk result (λ pieces. pieces ≡ []) }
     {

@@ -21,7 +21,7 @@ fn with_last(
     Ok(lines)
 }
 
-/// Returns the lines of a text.
+/// Returns the lines of a text. It returns an error if an allocation fails.
 pub fn lines_of_text(alloc: Global, text: &[u8]) -> Result<Vec<Vec<u8>>, AllocError>
     ensures value { IfOk result (λ lines. text_of lines ≡ lines_in text.now) }
 {

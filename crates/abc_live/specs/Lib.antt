@@ -3,6 +3,7 @@
 pub use Rattle.abc_live_session.specs.Book
 pub use Rattle.abc_live_session.specs.Class
 pub use Rattle.abc_live_session.specs.Columns
+pub use Rattle.abc_live_session.specs.Kinds
 pub use Rattle.abc_live_session.specs.Counting
 pub use Rattle.abc_live_session.specs.Edit
 pub use Rattle.abc_live_session.specs.EditError

@@ -9,6 +9,7 @@ pub mod TunePlaces
 pub mod Memos
 pub mod Outcomes
 pub mod OwnTunes
+pub mod OwnerFiles
 pub mod Parts
 pub mod PreparedEdit
 pub mod Stretches

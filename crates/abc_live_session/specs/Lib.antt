@@ -15,6 +15,7 @@ pub use Rattle.abc_lines.specs.Text
 pub use Rattle.abc_scan.specs.Class
 pub use Rattle.abc_text.specs.LineEnd
 pub use Rattle.abc_tokens.specs.Columns
+pub use Rattle.abc_tokens.specs.Kinds
 pub use Rattle.abc_tokens.specs.LineTokens
 pub use Rattle.abc_tokens.specs.Scanned
 pub use Rattle.abc_tune_compiler.specs.Book

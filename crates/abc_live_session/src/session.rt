@@ -1,6 +1,6 @@
 //! A tune book that is edited, for any compiler of its tunes.
 
-ghost use Rattle.std.specs.Prelude.{◌≡◌, ◌≢◌, ◌↔◌, ℕ, ◌+◌, ◌≤◌, [], Contains, IfErr, IfOk, IfSome, IsSome, MatchResult, Ok, Some};
+ghost use Rattle.std.specs.Prelude.{◌≡◌, ◌≢◌, ◌↔◌, ℕ, ◌+◌, ◌-◌, ◌≤◌, [], All, Contains, IfErr, IfOk, IfSome, IsSome, MatchResult, None, Ok, Some};
 ghost use Rattle.std.specs.Prelude.{length, option_copied};
 ghost use Rattle.std.specs.List.Sorted.{IsStrictlyIncreasing, IsStrictlySortedBy};
 ghost use Rattle.std.specs.Map.{keys_of};
@@ -9,11 +9,12 @@ ghost use Rattle.abc_lines.specs.declared.limits.TheConstants.{MOST_LINES};
 ghost use Rattle.abc_live_session.specs.Counting.{MayCost, cost_of};
 ghost use Rattle.abc_live_session.specs.Edit.{line_at, splice_of};
 ghost use Rattle.abc_live_text.specs.ItemSplice.{splice_in};
-ghost use Rattle.abc_live_session.specs.Owner.{owner_of};
+ghost use Rattle.abc_live_session.specs.Owner.{owner_of, tune_file};
 ghost use Rattle.abc_live_session.specs.Session.{book_in, session_tunes};
-ghost use Rattle.abc_live_session.specs.Tokens.{RefusesLine, tokens_at, work_at};
+ghost use Rattle.abc_live_session.specs.Tokens.{RefusesLine, is_compiled, tokens_at, work_at};
 ghost use Rattle.abc_text.specs.LineEnd.{without_return};
-ghost use Rattle.abc_tokens.specs.Columns.{JoinColumns, PartsLieWithin, outer_tokens};
+ghost use Rattle.abc_tokens.specs.Columns.{JoinColumns, PartsFill, PartsLieWithin, outer_tokens};
+ghost use Rattle.abc_tokens.specs.Kinds.{HasKind};
 ghost use Rattle.abc_tune_compiler.specs.Book.{book_of};
 ghost use Rattle.abc_tune_compiler.specs.Fault.{fault_cmp};
 ghost use Rattle.abc_tune_compiler.specs.Files.{file_at, first_file};
@@ -194,7 +195,8 @@ impl<C: Compiler> LiveSession<C> {
 
     /// Returns the index, among the tunes of the text, of the one that gives a number's file. None if no tune has one.
     pub fn owner(&self, n: u32) -> Option<usize>
-        ensures { result ≡ owner_of (session_tunes C.steps C.rules self.now) n }
+        ensures value { result ≡ owner_of (session_tunes C.steps C.rules self.now) n }
+        ensures file { file_at (book_in C.steps C.rules self.now).files n ≡ tune_file (session_tunes C.steps C.rules self.now) result }
     {
         // For the prover: the kept parts are those of the text.
         let _ = self.text.lines();
@@ -256,6 +258,9 @@ impl<C: Compiler> LiveSession<C> {
         ensures covers { IfOk result (λ tokens. IfSome (line_at self.now.text number)
             (λ line. JoinColumns 1 (outer_tokens tokens.items) (length (without_return line) + 1))) }
         ensures inside { IfOk result (λ tokens. PartsLieWithin 0 0 tokens.items) }
+        ensures parts { IfOk result (λ tokens. IfSome (line_at self.now.text number) (λ line. PartsFill line None tokens.items)) }
+        ensures kinds { IfOk result (λ tokens. IfSome (line_at self.now.text number)
+            (λ line. All (HasKind (is_compiled (C.rules self.now.compiler) self.now.text (number - 1)) line) tokens.items)) }
         ensures counted { work.new ≡ work_at (C.rules self.now.compiler) self.now.text number work.old }
     {
         match self.line(number) {

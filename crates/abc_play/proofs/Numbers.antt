@@ -1,6 +1,6 @@
 -- The play of a number is that of the tune that owns it.
-use Rattle.std.proofs.Common.{◌≡◌, ℕ, ◌<◌, ◌≤◌, List, Option, Some, None, slice_get, length, sym, ap, subst, ◌∙◌}
-use Rattle.std.specs.Prelude.{option_and_then}
+use Rattle.std.proofs.Common.{◌≡◌, ℕ, ◌<◌, ◌≤◌, List, Option, Some, None, slice_get, length, refl, sym, ap, subst, ◌∙◌}
+use Rattle.std.specs.Prelude.{option_and_then, IsSome}
 use Rattle.std.specs.Option.{option_map}
 use Rattle.std.proofs.lemmas.Option.{slice_get_past}
 use Rattle.abc_book.specs.declared.block.Block.{Block}
@@ -39,4 +39,4 @@ module _ (text : Text) (number tune : ℕ) (block : Block) (owner : owner_of (tu
   pub number_refused : (e : PlayError) → RefusesTune (block_size text block) e → RefusesPlay text number e
   number_refused NoSuchNumber refused = absurd refused
   number_refused TooLong refused = subst (λ (o : Option Block). MOST_PLACES < size_of text o) (sym block_is) refused
-  number_refused OutOfMemory refused = refused
+  number_refused OutOfMemory refused = subst (λ (o : Option Block). IsSome o) (sym block_is) refl

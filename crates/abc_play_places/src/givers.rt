@@ -24,7 +24,8 @@ fn next_giver(cell: &[Token], from: usize) -> usize
     cell.len()
 }
 
-/// Returns for each item of a cell of a tune's body the index of the token that gives it. None for items without a place.
+/// Returns for each item of a cell of a tune's body the index of the token that gives it. None for items without a place. It
+/// returns an error if an allocation fails.
 pub fn givers_of(
     alloc: Global,
     cell: &[Token],

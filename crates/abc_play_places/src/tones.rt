@@ -18,7 +18,8 @@ fn is_note_part(kind: &ChordPartKind) -> bool
     matches!(kind, ChordPartKind::Note(_))
 }
 
-/// Returns for each tone of a chord the index of the part that gives it: its first sixteen notes.
+/// Returns for each tone of a chord the index of the part that gives it: its first sixteen notes. It returns an error if an
+/// allocation fails.
 pub fn tone_parts_of(alloc: Global, parts: &[ChordPart]) -> Result<Vec<usize>, AllocError>
     ensures value { IfOk result (λ found. found.items ≡ tone_parts 0 0 parts.now) }
     ensures exact { IfOk result (λ found. (state : VoiceState) (broken : List Ratio) (context : ChordContext)

@@ -1,23 +1,17 @@
--- The steps of a voice, their order and their play, without the bar lines that are passed, and as items.
-use Rattle.std.proofs.Common.{◌≡◌, ℕ, zero, suc, true, false, cond, List, [], ◌∷◌, ◌++◌, map, refl, sym, ap, subst, ◌∙◌, append-nil}
+-- The steps of a voice and their order, without the bar lines that are passed.
+use Rattle.std.proofs.Common.{◌≡◌, ℕ, true, false, cond, List, [], ◌∷◌, ◌++◌, refl, sym, ap, subst, ◌∙◌, append-nil}
 use Rattle.std.specs.Bool.{⊤}
-use Rattle.std.specs.Prelude.{◌&&◌, bytes_eq, filter_map, slice_get}
-use Rattle.std.specs.List.{cons_option}
-use Rattle.std.proofs.lemmas.List.{map-append}
+use Rattle.std.specs.Prelude.{◌&&◌, bytes_eq}
 use Rattle.std.proofs.lemmas.List.Elements.{filter-append}
 use Rattle.abc_repeat.specs.Mark.{is_ending}
-use Rattle.abc_repeat.specs.Play.{play_of}
 use Rattle.abc_voices_sections.specs.declared.ending_fields.EndingRegion.{EndingRegion}
 use Rattle.abc_voices_sections.specs.declared.ending_fields.EndingRegion.TheVariants.{Common, Inside, AfterBar}
-use Rattle.abc_voices_sections.specs.EndingFields as fields
 use Rattle.abc_voices_sections.specs.EndingFields.{waits, region_after}
-use Rattle.abc_voices_sections.specs.Play.{marks_of, played_items}
-use Rattle.abc_voices_sections.specs.Section as sections
 use Rattle.abc_voices_sections.specs.Section.{is_step, voice_after}
 use Rattle.abc_play_sections.specs.declared.step.PlayStep.{PlayStep}
 use Rattle.abc_play_sections.specs.declared.step.PlayStep.TheVariants as steps
 use Rattle.abc_play_sections.specs.Order.{put_with_waiting, in_order_from, in_order}
-use Rattle.abc_play_sections.specs.Play.{part_from, expanded}
+use Rattle.abc_play_sections.specs.Play.{part_from}
 use Rattle.abc_play_sections.specs.Step.{as_item, is_item, mark, without_bar_lines}
 
 -- the steps of a voice without bar lines
@@ -36,42 +30,6 @@ without_bar_lines-part voice current (steps.BarLine place ∷ rest) =
     elim (bytes_eq current voice) as (λ b. without_bar_lines (cond (true && b) (steps.BarLine place ∷ with_bars) with_bars) ≡ part_from voice current (without_bar_lines rest)) [
       | true ↦ without_bar_lines-part voice current rest
       | false ↦ without_bar_lines-part voice current rest
-    ]
-
--- the steps of a voice as items
-pub map-part_from : (voice current : List ℕ) (own : List PlayStep) → map as_item (part_from voice current own) ≡ sections.part_from voice current (map as_item own)
-map-part_from voice current [] = refl
-map-part_from voice current (step ∷ rest) =
-    let item = as_item step in
-    let next = voice_after current item in
-    let seen = sections.part_from voice next (map as_item rest) in
-    elim (is_step item && bytes_eq current voice) as (λ b. map as_item (cond b (step ∷ part_from voice next rest) (part_from voice next rest)) ≡ cond b (item ∷ seen) seen) [
-      | true ↦ ap (λ l. item ∷ l) (map-part_from voice next rest)
-      | false ↦ map-part_from voice next rest
-    ]
-
-put_items : (held : List PlayStep) (step : PlayStep) → map as_item (put_with_waiting held step) ≡ fields.put_with_waiting (map as_item held) (as_item step)
-put_items held step =
-    elim (is_ending (mark step)) as (λ b. map as_item (cond b (step ∷ held) (held ++ step ∷ [])) ≡ cond b (as_item step ∷ map as_item held) (map as_item held ++ as_item step ∷ [])) [
-      | true ↦ refl
-      | false ↦ map-append as_item held (step ∷ [])
-    ]
-
--- their order as items
-pub map-in_order_from : (region : EndingRegion) (held own : List PlayStep)
-    → map as_item (in_order_from region held own) ≡ fields.with_fields_in_endings_from region (map as_item held) (map as_item own)
-map-in_order_from region held [] = refl
-map-in_order_from region held (step ∷ rest) =
-    let next = region_after region (mark step) in
-    elim (waits region (as_item step)) as (λ b. map as_item (cond b (in_order_from region (held ++ step ∷ []) rest) (put_with_waiting held step ++ in_order_from next [] rest))
-    ≡ cond b (fields.with_fields_in_endings_from region (map as_item held ++ as_item step ∷ []) (map as_item rest))
-    (fields.put_with_waiting (map as_item held) (as_item step) ++ fields.with_fields_in_endings_from next [] (map as_item rest))) [
-      | true ↦
-          map-in_order_from region (held ++ step ∷ []) rest
-          ∙ ap (λ l. fields.with_fields_in_endings_from region l (map as_item rest)) (map-append as_item held (step ∷ []))
-      | false ↦
-          map-append as_item (put_with_waiting held step) (in_order_from next [] rest)
-          ∙ (λ i. put_items held step i ++ map-in_order_from next [] rest i)
     ]
 
 -- only after an ending's bar something waits
@@ -148,25 +106,3 @@ order_without region held (steps.BarLine place ∷ rest) may =
 -- the order of steps without bar lines
 pub without_bar_lines-in_order : (own : List PlayStep) → without_bar_lines (in_order own) ≡ in_order (without_bar_lines own)
 without_bar_lines-in_order own = order_without Common [] own refl
-
-one_item : (own : List PlayStep) (place : ℕ) (rest : List PlayStep) → map as_item (cons_option (slice_get own place) rest) ≡ cons_option (slice_get (map as_item own) place) (map as_item rest)
-one_item [] place rest = refl
-one_item (step ∷ own) zero rest = refl
-one_item (step ∷ own) (suc place) rest = one_item own place rest
-
-found_items : (own : List PlayStep) (places : List ℕ) → map as_item (filter_map (slice_get own) places) ≡ filter_map (slice_get (map as_item own)) places
-found_items own [] = refl
-found_items own (place ∷ places) =
-    one_item own place (filter_map (slice_get own) places)
-    ∙ ap (cons_option (slice_get (map as_item own) place)) (found_items own places)
-
-marks_alike : (own : List PlayStep) → map mark own ≡ marks_of (map as_item own)
-marks_alike [] = refl
-marks_alike (step ∷ own) = ap (λ marks. mark step ∷ marks) (marks_alike own)
-
--- what is played of a voice's steps, as items
-pub map-expanded : (own : List PlayStep) → map as_item (expanded (in_order own)) ≡ played_items (map as_item own)
-map-expanded own =
-    found_items (in_order own) (play_of (map mark (in_order own)))
-    ∙ ap (λ marks. filter_map (slice_get (map as_item (in_order own))) (play_of marks)) (marks_alike (in_order own))
-    ∙ ap (λ items. filter_map (slice_get items) (play_of (marks_of items))) (map-in_order_from Common [] own)

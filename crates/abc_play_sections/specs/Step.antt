@@ -1,15 +1,10 @@
 -- The steps of a play: the items of a tune with their places, and the bar lines that are passed. Not in ABC 2.1.
-use Rattle.std.specs.Prelude.{Bool, true, false, List, map, filter, None}
+use Rattle.std.specs.Prelude.{Bool, true, false, List, map, filter}
 use Rattle.abc_bars_items.specs.declared.item.Item.{Item}
-use Rattle.abc_bars_items.specs.declared.item.Item.TheVariants as items
 use Rattle.abc_repeat.specs.declared.mark.Mark.{Mark}
-use Rattle.abc_voices_sections.specs.Step.{mark_of}
+use Rattle.abc_voices_sections.specs.Step.{empty_field, mark_of}
 use Rattle.abc_play_sections.specs.declared.step.PlayStep.{PlayStep}
 use Rattle.abc_play_sections.specs.declared.step.PlayStep.TheVariants as steps
-
--- A field that sets nothing.
-abbrev pub empty_field : Item
-empty_field = items.Tempo false None false
 
 -- A step as an item. A bar line that is passed is played as a field would be.
 abbrev pub as_item : PlayStep → Item

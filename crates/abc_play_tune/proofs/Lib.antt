@@ -1,10 +1,8 @@
 pub mod AllTones
 pub mod Begun
 pub mod Counted
-pub mod Cuts
 pub mod Entering
 pub mod Lengths
-pub mod Placed
 pub mod Times
 pub mod Tokens
 pub mod Tracks

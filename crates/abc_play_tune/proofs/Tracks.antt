@@ -21,11 +21,14 @@ use Rattle.abc_voices_sections.specs.Section.{letters}
 use Rattle.abc_play_sections.specs.declared.step.PlayStep.{PlayStep}
 use Rattle.abc_play_sections.specs.Play.{steps_in}
 use Rattle.abc_play_tune.specs.Play.{counted_voices, counted_place, is_nameless, step_sections, played_sections, play_of_voice}
-use Rattle.abc_play_tune.specs.Stage.{section_time, length_in, part_of, stage_of}
+use Rattle.abc_play_tune.specs.Stage.{section_time, length_in, stage_of}
+use Rattle.abc_voices_sections.specs.Stage.{part_in}
+use Rattle.abc_play_sections.specs.Step.{as_item}
 use Rattle.abc_play_tune.specs.Steps.{without_places}
 use Rattle.abc_play_tune.specs.Timed.{timed_from, timed_in, steps_of, timed_along}
-use Rattle.abc_play_tune.specs.Turns.{IsPart, IsStage, length_along}
-use Rattle.abc_play_tune.specs.declared.stage.StepStage.{StepStage}
+use Rattle.abc_play_tune.specs.Turns.{IsPart, IsStage}
+use Rattle.abc_voices_sections.specs.Turns.{length_along}
+use Rattle.abc_voices_sections.specs.declared.stage.Stage.{Stage}
 use Rattle.abc_play_tune.proofs.Counted.{LastsAsLong, all_last_as_long}
 use Rattle.abc_play_tune.proofs.Times.{section_time-alike}
 use Rattle.abc_play_tune.proofs.WithoutPlaces.{plays_sections}
@@ -37,12 +40,12 @@ Stepped = List ℕ × List PlayStep
 abbrev longest_in : Stepped → List (List ℕ) → ℕ
 longest_in section voices = section_time voices section
 
-parts_all : (section : Stepped) (longest : Grains) (voices : List (List ℕ)) → longest_in section voices ≤ longest.0 → All (IsPart longest) (map (part_of section) voices)
+parts_all : (section : Stepped) (longest : Grains) (voices : List (List ℕ)) → longest_in section voices ≤ longest.0 → All (IsPart longest) (map (part_in as_item section) voices)
 parts_all section longest [] within = All-nil (IsPart longest)
 parts_all section longest (voice ∷ voices) within =
     let here : length_in section voice ≤ longest.0 = omega arith in
-    let own : IsPart longest (part_of section voice) = record { length = refl; short = here } in
-    All-cons (IsPart longest) (part_of section voice) (map (part_of section) voices) own (parts_all section longest voices (omega arith))
+    let own : IsPart longest (part_in as_item section voice) = record { length = refl; short = here } in
+    All-cons (IsPart longest) (part_in as_item section voice) (map (part_in as_item section) voices) own (parts_all section longest voices (omega arith))
 
 stages_are : (voices : List (List ℕ)) (played : List Stepped) → All IsStage (map (stage_of voices) played)
 stages_are voices [] = All-nil IsStage
@@ -50,14 +53,14 @@ stages_are voices (section ∷ played) =
     let own : IsStage (stage_of voices section) = record { parts = parts_all section (stage_of voices section).longest voices (omega arith) } in
     All-cons IsStage (stage_of voices section) (map (stage_of voices) played) own (stages_are voices played)
 
-pub stages_hold : (voices : List (List ℕ)) (played : List Stepped) (stages : List StepStage) → stages ≡ map (stage_of voices) played → All IsStage stages
+pub stages_hold : (voices : List (List ℕ)) (played : List Stepped) (stages : List (Stage PlayStep)) → stages ≡ map (stage_of voices) played → All IsStage stages
 stages_hold voices played stages is = subst (All IsStage) (sym is) (stages_are voices played)
 
 -- how long the stages of sections are
 total_of : (voices : List (List ℕ)) (played : List Stepped) → length_along (map (stage_of voices) played) ≡ sum_by (section_time voices) played
 total_of voices [] = refl
 total_of voices (section ∷ played) =
-    sum_by-cons (λ (stage : StepStage). stage.longest.0) (stage_of voices section) (map (stage_of voices) played)
+    sum_by-cons (λ (stage : Stage PlayStep). stage.longest.0) (stage_of voices section) (map (stage_of voices) played)
     ∙ ap (λ n. section_time voices section + n) (total_of voices played)
     ∙ sym (sum_by-cons (section_time voices) section played)
 
@@ -82,7 +85,7 @@ sum_by-section_time tune =
     times_counted (items_of tune) (played_sections tune) (all_last_as_long tune)
     ∙ times_of voices (played_sections tune) ∙ ap (sum_by (section_length voices)) (plays_sections tune)
 
-pub length_along-total : (tune : List (Bor Item)) (stages : List StepStage) → stages ≡ map (stage_of (counted_voices (items_of tune))) (played_sections tune)
+pub length_along-total : (tune : List (Bor Item)) (stages : List (Stage PlayStep)) → stages ≡ map (stage_of (counted_voices (items_of tune))) (played_sections tune)
     → length_along stages ≡ total (items_of tune)
 length_along-total tune stages is =
     ap length_along is ∙ total_of (counted_voices (items_of tune)) (played_sections tune) ∙ sum_by-section_time tune
@@ -114,8 +117,8 @@ front xs k x rest e =
 
 -- what the voice at a place plays
 steps_here : (section : Stepped) (voices : List (List ℕ)) (k : ℕ) (voice : List ℕ) → slice_get voices k ≡ Some voice
-    → steps_of (slice_get (map (part_of section) voices) k) ≡ steps_in section voice
-steps_here section voices k voice e = ap steps_of (slice_get-map (part_of section) voices k ∙ ap (option_map (part_of section)) e)
+    → steps_of (slice_get (map (part_in as_item section) voices) k) ≡ steps_in section voice
+steps_here section voices k voice e = ap steps_of (slice_get-map (part_in as_item section) voices k ∙ ap (option_map (part_in as_item section)) e)
 
 timed_here : (voices : List (List ℕ)) (k : ℕ) (voice : List ℕ) (at : ℕ) (played : List Stepped) → slice_get voices k ≡ Some voice
     → timed_along k at (map (stage_of voices) played) ≡ timed_in voices voice at played
@@ -171,7 +174,7 @@ pub first_counted : (tune : List Item) → first_place tune - counted_place tune
 first_counted tune = omega (arith, first_within tune, ap length (drop-counted_voices tune), length-drop (counted_place tune) (voice_names tune))
 
 -- what the voices with a track play
-pub for_voices-timed : (tune : List (Bor Item)) (stages : List StepStage) (first count : ℕ)
+pub for_voices-timed : (tune : List (Bor Item)) (stages : List (Stage PlayStep)) (first count : ℕ)
     → first ≡ first_place (items_of tune) - counted_place (items_of tune) → count ≡ length (counted_voices (items_of tune))
     → stages ≡ map (stage_of (counted_voices (items_of tune))) (played_sections tune)
     → for_voices (λ one. timed_along one 0 stages) first (count - first) ≡ map (play_of_voice tune) (tracks (items_of tune))

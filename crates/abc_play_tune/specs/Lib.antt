@@ -3,6 +3,5 @@ pub mod Laws
 pub mod Play
 pub mod Stage
 pub mod Steps
-pub mod Table
 pub mod Timed
 pub mod Turns

@@ -1,9 +1,9 @@
 -- The steps of a tune and of its sections. Not in ABC 2.1.
 use Rattle.std.specs.Borrow.{Bor}
-use Rattle.std.specs.Prelude.{ℕ, Bool, true, false, ◌+◌, if◌then◌else◌, List, [], ◌∷◌, ◌++◌}
+use Rattle.std.specs.Prelude.{ℕ, Bool, true, false, ◌+◌, if◌then◌else◌, List, [], ◌∷◌}
 use Rattle.abc_bars_items.specs.declared.item.Item.{Item}
 use Rattle.abc_bars_items.specs.declared.item.Item.TheVariants as items
-use Rattle.abc_voices_sections.specs.Section.{is_section, voice_after}
+use Rattle.abc_voices_sections.specs.Section.{cut_from}
 use Rattle.abc_play_sections.specs.declared.step.PlayStep.{PlayStep}
 use Rattle.abc_play_sections.specs.declared.step.PlayStep.TheVariants as steps
 use Rattle.abc_play_sections.specs.Step.{as_item, items_among}
@@ -25,10 +25,7 @@ steps_from place (item ∷ tune) = steps_with place item.now (steps.Item item pl
 -- The sections of steps from one on that began in the voice `opening`. `held` has its steps so far, and `voice` is the
 -- current voice.
 abbrev pub sections_from : List ℕ → List PlayStep → List ℕ → List PlayStep → List (List ℕ × List PlayStep)
-sections_from opening held voice [] = (opening, held) ∷ []
-sections_from opening held voice (step ∷ others) =
-    if is_section (as_item step) then (opening, held) ∷ sections_from voice [] voice others
-    else sections_from opening (held ++ step ∷ []) (voice_after voice (as_item step)) others
+sections_from opening held voice own = cut_from as_item opening held voice own
 
 -- A section without the bar lines that are passed.
 abbrev pub without_places : List ℕ × List PlayStep → List ℕ × List Item

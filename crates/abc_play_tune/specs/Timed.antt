@@ -5,8 +5,8 @@ use Rattle.abc_play_sections.specs.declared.step.PlayStep.{PlayStep}
 use Rattle.abc_play_sections.specs.Play.{steps_in}
 use Rattle.abc_play_sections.specs.Step.{as_item}
 use Rattle.abc_play_tune.specs.Stage.{section_time}
-use Rattle.abc_play_tune.specs.declared.stage.StepPart.{StepPart}
-use Rattle.abc_play_tune.specs.declared.stage.StepStage.{StepStage}
+use Rattle.abc_voices_sections.specs.declared.stage.VoicePart.{VoicePart}
+use Rattle.abc_voices_sections.specs.declared.stage.Stage.{Stage}
 use Rattle.abc_play_tune.specs.declared.timed.TimedStep.{TimedStep}
 
 -- Steps that are played one after another from a moment on.
@@ -21,14 +21,14 @@ timed_in voices voice at (section ∷ rest) =
     timed_from at (steps_in section voice) ++ timed_in voices voice (at + section_time voices section) rest
 
 -- The steps of a part, if there is one.
-abbrev pub steps_of : Option StepPart → List PlayStep
+abbrev pub steps_of : Option (VoicePart PlayStep) → List PlayStep
 steps_of None = []
 steps_of (Some part) = part.steps
 
 -- What the voice at a place plays of a stage, and of stages one after another, from a moment on.
-abbrev pub timed_at : ℕ → ℕ → StepStage → List TimedStep
+abbrev pub timed_at : ℕ → ℕ → Stage PlayStep → List TimedStep
 timed_at voice at stage = timed_from at (steps_of (slice_get stage.parts voice))
 
-abbrev pub timed_along : ℕ → ℕ → List StepStage → List TimedStep
+abbrev pub timed_along : ℕ → ℕ → List (Stage PlayStep) → List TimedStep
 timed_along voice at [] = []
 timed_along voice at (stage ∷ stages) = timed_at voice at stage ++ timed_along voice (at + stage.longest.0) stages

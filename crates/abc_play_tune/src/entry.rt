@@ -185,7 +185,7 @@ fn set_after(previous: &mut Vec<Tone>, step: PlayStep) -> Result<(), AllocError>
     }
 }
 
-/// Returns the entries of what a voice plays, in order of play.
+/// Returns the entries of what a voice plays, in order of play. It returns an error if an allocation fails.
 pub fn entries_of(alloc: Global, timed: &[TimedStep]) -> Result<Vec<PlayEntry>, AllocError>
     ensures { IfOk result (λ entries. entries.items ≡ entries_from [] timed.now) }
 {

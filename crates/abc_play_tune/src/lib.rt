@@ -5,12 +5,8 @@ mod entry;
 mod joined;
 pub mod laws;
 mod play;
-mod sections;
-mod stage;
 mod steps;
-mod table;
 mod timed;
-mod turns;
 
 pub use abc_play_sections::PlayStep;
 pub use entry::{EntryKind, PlayEntry, entries_of};

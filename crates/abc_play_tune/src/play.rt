@@ -14,18 +14,17 @@ ghost use Rattle.abc_voices_sections.specs.Section.{letters, opening_voice};
 ghost use Rattle.abc_voices_sections.specs.declared.stage.StageError.TheVariants.{TooMany, TooLate};
 ghost use Rattle.abc_play_tune.specs.Play.{counted_place, counted_voices, is_nameless, played_sections, play_of_voice, steps_played};
 ghost use Rattle.abc_play_tune.specs.Stage.{stage_of};
-ghost use Rattle.abc_play_tune.specs.Table.{at_places};
-ghost use Rattle.abc_play_tune.specs.Turns.{stages_in};
+ghost use Rattle.abc_voices_sections.specs.Table.{at_places};
+ghost use Rattle.abc_voices_sections.specs.Turns.{stages_in};
 
-use crate::sections::sections;
-use crate::stage::StepStage;
 use crate::steps::steps_of;
-use crate::table::stages;
 use crate::timed::{TimedStep, voices_along};
-use crate::turns::{Turn, length_along, turns_in_order};
 use abc_bars_items::Item;
+use abc_play_sections::PlayStep;
 use abc_text::Sequence;
-use abc_voices_sections::StageError;
+use abc_voices_sections::{
+    Stage, StageError, Turn, length_along, sections, stages, turns_in_order,
+};
 use std::alloc::Global;
 
 /// Whether a V: of the body has no name.
@@ -68,7 +67,7 @@ fn stages_of<'t>(
     opening: &'t [u8],
     voices: &[&[u8]],
     played: &[usize],
-) -> Result<Vec<Option<StepStage<'t>>>, StageError>
+) -> Result<Vec<Option<Stage<PlayStep<'t>>>>, StageError>
     requires opening { opening.now ≡ opening_voice (items_of tune.now) }
     requires voices { map (λ voice. voice.now) voices.now ≡ counted_voices (items_of tune.now) }
     requires played { played.now ≡ sections_of (after_all order_after None (items_of tune.now)) (letters (items_of tune.now)) }
@@ -88,7 +87,7 @@ fn stages_of<'t>(
 fn tracks_along<'t>(
     alloc: Global,
     tune: &[&'t Item],
-    turns: &[Turn<'_, 't>],
+    turns: &[Turn<'_, PlayStep<'t>>],
     first: usize,
     count: usize,
 ) -> Result<Sequence<Sequence<TimedStep<'t>>>, StageError>

@@ -5,13 +5,13 @@ ghost use Rattle.abc_time.specs.Grains.{grains_of_the_latest_end};
 ghost use Rattle.abc_voices.specs.Turns.{for_voices};
 ghost use Rattle.abc_play_tune.specs.Stage.{time_of};
 ghost use Rattle.abc_play_tune.specs.Timed.{timed_from, timed_at, timed_along};
-ghost use Rattle.abc_play_tune.specs.Turns.{IsPart, IsStage, stages_in, length_along};
+ghost use Rattle.abc_play_tune.specs.Turns.{IsPart, IsStage};
+ghost use Rattle.abc_voices_sections.specs.Turns.{stages_in, length_along};
 
-use crate::stage::{StepPart, StepStage};
-use crate::turns::Turn;
 use abc_play_sections::PlayStep;
 use abc_text::Sequence;
 use abc_time::Grains;
+use abc_voices_sections::{Stage, Turn, VoicePart, length_of_step};
 use std::alloc::{AllocError, Global};
 
 /// A step that is played, and the moment at which it begins.
@@ -34,7 +34,7 @@ fn put_timed<'t>(
     let mut at = start;
     for step in steps {
         timed.push(TimedStep { at, step: *step })?;
-        at.0 += step.length().0;
+        at.0 += length_of_step(step).0;
     }
     Ok(())
 }
@@ -45,7 +45,7 @@ fn put_part<'t>(
     timed: &mut Vec<TimedStep<'t>>,
     at: Grains,
     longest: Grains,
-    part: &StepPart<'t>,
+    part: &VoicePart<PlayStep<'t>>,
 ) -> Result<(), AllocError>
     requires part { IsPart longest part.now }
     requires end { at.0 + longest.0 ≤ grains_of_the_latest_end }
@@ -58,7 +58,7 @@ fn put_part<'t>(
 fn put_stage<'t>(
     timed: &mut Vec<TimedStep<'t>>,
     at: Grains,
-    stage: &StepStage<'t>,
+    stage: &Stage<PlayStep<'t>>,
     voice: usize,
 ) -> Result<(), AllocError>
     requires stage { IsStage stage.now }
@@ -76,7 +76,7 @@ fn put_stage<'t>(
 #[tactic(auto, unfolding(abc_time::specs::Grains::grains_of_a_whole_note, abc_time::specs::Grains::grains_of_the_latest_end))]
 fn voice_along<'t>(
     alloc: Global,
-    turns: &[Turn<'_, 't>],
+    turns: &[Turn<'_, PlayStep<'t>>],
     voice: usize,
 ) -> Result<Sequence<TimedStep<'t>>, AllocError>
     requires stages { All (λ turn. IsStage turn.stage.now) turns.now }
@@ -95,7 +95,7 @@ fn voice_along<'t>(
 /// Returns the steps of the voices from `first` on, up to `count`.
 pub(crate) fn voices_along<'t>(
     alloc: Global,
-    turns: &[Turn<'_, 't>],
+    turns: &[Turn<'_, PlayStep<'t>>],
     first: usize,
     count: usize,
 ) -> Result<Sequence<Sequence<TimedStep<'t>>>, AllocError>

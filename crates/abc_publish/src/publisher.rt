@@ -57,7 +57,8 @@ impl Publisher {
         self.take_from(session, 0)
     }
 
-    /// Returns the same for the numbers from `from` on, for a caller who goes on after the number of the last job.
+    /// Returns the same for the numbers from `from` on, for a caller who goes on after the number of the last job. It returns
+    /// an error if an allocation fails.
     pub fn take_from<C: Compiler>(
         &mut self,
         session: &LiveSession<C>,

@@ -4,7 +4,7 @@ ghost use Rattle.abc_repeat.specs.PlayLaws.{HasNoOtherPlay, IsByTheRules};
 ghost use Rattle.abc_repeat.specs.Runs.{AreJoined, PassesSingleBars};
 ghost use Rattle.abc_repeat.specs.Strain.{HasOneReading, HasStrains};
 
-/// The marks of a voice in a section are a list of strains in exactly one way.
+/// The marks of a voice in a section are a list of strains in exactly one way (ABC 2.1 section 4.9).
 pub fn one_reading()
     ensures exists { HasStrains }
     ensures once { HasOneReading }

@@ -31,7 +31,7 @@ impl Model for Cell {
 }
 
 impl Cell {
-    /// The cell of these tokens.
+    /// The cell of these tokens. It returns an error if an allocation fails.
     #[tactic(auto, using(crate::proofs::CellLaws::whole_range))]
     pub fn new(alloc: Global, tokens: Vec<Token>) -> Result<Cell, AllocError>
         ensures { IfOk result (λ cell. cell ≡ tokens.items) }
@@ -48,7 +48,7 @@ impl Cell {
         &self.line.get().as_slice()[self.from as usize..self.to as usize]
     }
 
-    /// A copy, which shares the tokens.
+    /// A copy, which shares the tokens. It returns an error if an allocation fails.
     pub fn share(&self) -> Result<Cell, AllocError>
         ensures { IfOk result (λ copy. copy ≡ self.now) }
     {

@@ -67,9 +67,10 @@ fn next_part(text: &[u8], absent: &mut KnownAbsent) -> (ChordPartKind, usize)
     part_reading_at(text, absent).unwrap_or((ChordPartKind::BadByte, 1))
 }
 
-/// The parts that the inside of a chord is cut into.
+/// The parts that the inside of a chord is cut into (ABC 2.1 section 4.17). Their places count from the chord's own bracket. It
+/// returns an error if an allocation fails.
 #[tactic(auto, using(crate::proofs::Closings::absent_next))]
-fn parts_of(alloc: Global, text: &[u8]) -> Result<Sequence<ChordPart>, AllocError>
+pub fn parts_of(alloc: Global, text: &[u8]) -> Result<Sequence<ChordPart>, AllocError>
     requires { length text.now + 1 < 2 ^ 31 }
     ensures { IfOk result (λ parts. parts ≡ parts_of text.now) }
 {

@@ -5,15 +5,16 @@ ghost use Rattle.abc_scan.specs.Directive.{ReadsDirectives};
 ghost use Rattle.abc_scan.specs.Line.{CutsEachText, CutsOnce};
 ghost use Rattle.abc_scan.specs.Text.{CutsComments};
 
-/// The text that `scan` reads of a line is the line without one carriage return at its end, up to the comment.
+/// The text that `scan` reads of a line is the line without one carriage return at its end, up to the comment (ABC 2.1 section
+/// 2.2).
 #[tactic(auto, using(abc_text::proofs::LineEnds::drops_one_return, crate::proofs::Comments::cuts_comments))]
 pub fn part_read()
     ensures returns { DropsOneReturn }
     ensures comments { CutsComments }
 {}
 
-/// `scan` cuts a music line into tokens. Each token is the longest that begins at its place, and the line has no other
-/// such cutting.
+/// `scan` cuts a music line into tokens. Each token is the longest that begins at its place, and the line has no other such
+/// cutting (ABC 2.1 section 4.20).
 #[tactic(auto, using(crate::proofs::TokenLaws::cuts_each, crate::proofs::TokenLaws::cuts_once))]
 pub fn one_cutting()
     ensures cuts { CutsEachText }

@@ -35,7 +35,7 @@ pub use abc_text::{Accidental, Letter, Sequence, Shared};
 pub use bar_line::BarLine;
 pub use broken::{BrokenRhythm, Direction};
 pub use cell::{Cell, cells};
-pub use chord::Chord;
+pub use chord::{Chord, parts_of};
 pub use chord_part::{ChordPart, ChordPartKind};
 pub use directive::{Directive, Reach};
 pub use dynamic::Dynamic;

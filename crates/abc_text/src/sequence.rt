@@ -35,7 +35,7 @@ impl<T> Sequence<T> {
         }
     }
 
-    /// A copy of these elements.
+    /// A copy of these elements. It returns an error if an allocation fails.
     pub fn from_slice(alloc: Global, elements: &[T]) -> Result<Self, AllocError>
     where
         T: Copy,
@@ -46,7 +46,7 @@ impl<T> Sequence<T> {
         })
     }
 
-    /// Appends an element.
+    /// Appends an element. It returns an error if an allocation fails.
     pub fn push(&mut self, element: T) -> Result<(), AllocError>
     where
         T: Drop,

@@ -27,7 +27,7 @@ impl<T: Drop> Clone for Shared<T> {
 }
 
 impl<T: Drop> Shared<T> {
-    /// The value, with one owner.
+    /// The value, with one owner. It returns an error if an allocation fails.
     pub fn new(alloc: Global, value: T) -> Result<Shared<T>, AllocError>
         ensures { IfOk result (λ shared. shared ≡ value) }
     {

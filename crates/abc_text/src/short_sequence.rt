@@ -39,7 +39,7 @@ impl<T: Default + Drop> ShortSequence<T> {
         }
     }
 
-    /// Appends an element.
+    /// Appends an element. It returns an error if an allocation fails.
     pub fn push(&mut self, element: T) -> Result<(), AllocError>
         ensures ok { OnOk result (self.new ≡ self.old ++ element ∷ []) }
         ensures unchanged { OnErr result (self.new ≡ self.old) }

@@ -6,7 +6,8 @@ ghost use Rattle.abc_time.specs.Grains.{grains_of_the_longest_length, tick_at};
 
 use crate::grains::{LAST_TICK, LATEST_END, LONGEST_LENGTH, TICK, WHOLE_NOTE};
 
-/// The constants are the numbers of the definitions. A whole note has 1,920 ticks, and `LATEST_END` falls on `LAST_TICK`.
+/// The constants are the numbers of the definitions. A whole note has 1,920 ticks, and `LATEST_END` falls on `LAST_TICK` (SMF
+/// 1.0, division of the header chunk).
 #[tactic(auto, using(crate::proofs::GrainNumbers::grain_numbers))]
 pub fn grain_numbers()
     ensures whole_note { WHOLE_NOTE.0 ≡ grains_of_a_whole_note }

@@ -1,2 +1,4 @@
 pub mod Chords
 pub mod Joined
+pub mod KindLaws
+pub mod PartsFilled

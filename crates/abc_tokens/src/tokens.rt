@@ -5,7 +5,8 @@ ghost use Rattle.abc_fold.specs.Work.{raised};
 ghost use Rattle.abc_scan.specs.Class.{class_of};
 ghost use Rattle.abc_scan.specs.Cutting.{IsSpan};
 ghost use Rattle.abc_text.specs.LineEnd.{without_return};
-ghost use Rattle.abc_tokens.specs.Columns.{HoldsParts, IsPartWithin, JoinColumns, PartsLieWithin, outer_tokens};
+ghost use Rattle.abc_tokens.specs.Columns.{HoldsParts, IsPartWithin, JoinColumns, PartsFill, PartsLieWithin, outer_tokens};
+ghost use Rattle.abc_tokens.specs.Kinds.{HasKind};
 ghost use Rattle.abc_tokens.specs.LineTokens.{comment_between, cut_tokens, end_after, line_token, line_tokens, outer_token};
 ghost use Rattle.abc_tokens.specs.LineTokens.{part_token, tokens_by, tokens_with_parts, whole_kind, whole_line, with_parts};
 ghost use Rattle.abc_tokens.specs.Scanned.{work_after};
@@ -218,6 +219,8 @@ pub fn line_tokens(
     ensures value { IfOk result (λ tokens. tokens.items ≡ line_tokens is_compiled line.now) }
     ensures covers { IfOk result (λ tokens. JoinColumns 1 (outer_tokens tokens.items) (length (without_return line.now) + 1)) }
     ensures inside { IfOk result (λ tokens. PartsLieWithin 0 0 tokens.items) }
+    ensures parts { IfOk result (λ tokens. PartsFill line.now None tokens.items) }
+    ensures kinds { IfOk result (λ tokens. All (HasKind is_compiled line.now) tokens.items) }
     ensures counted { work.new ≡ work_after (whole_kind is_compiled (class_of line.now)) work.old }
 {
     tokens_by(alloc, whole_kind(is_compiled, class_of(line)), line, work)

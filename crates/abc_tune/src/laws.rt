@@ -17,15 +17,16 @@ pub fn tunes_looked_back()
     ensures { (abc : Abc) (bars : BarFold) → ⟦<Abc as Fold>⟧.steps abc ≡ ⟦<BarFold as Fold>⟧.steps bars }
 {}
 
-/// The title in the file of a tune is also its title in the list of titles: the first that a cell gives.
+/// The title in the file of a tune is also its title in the list of titles: the first that a cell gives (ABC 2.1 section
+/// 3.1.2).
 #[tactic(auto, using(crate::proofs::OneTitle::has_one_title))]
 pub fn one_title()
     ensures { HasOneTitle }
 {}
 
-/// A tune has the fault MissingKey exactly if no K: is before all music. It has the fault TempoRange exactly if no tempo
-/// event can hold its first tempo: that of the last Q: of its header that sets one, else of the file header. Its number in
-/// the book is that of its X:.
+/// A tune has the fault MissingKey exactly if no K: is before all music. It has the fault TempoRange exactly if no tempo event
+/// can hold its first tempo: that of the last Q: of its header that sets one, else of the file header. Its number in the book
+/// is that of its X: (ABC 2.1 sections 3.1.1, 3.1.8 and 3.1.14).
 pub fn tunes_by_headers()
     ensures missing_key { MissesKeyByText }
     ensures tempo_range { TempoRangeByText }

@@ -18,7 +18,7 @@ pub struct Built {
 }
 
 impl Built {
-    /// Returns a copy, which shares the bytes and the faults.
+    /// Returns a copy, which shares the bytes and the faults. It returns an error if an allocation fails.
     pub fn share(&self) -> Result<Built, AllocError>
         ensures { IfOk result (λ copy. copy ≡ self.now) }
     {

@@ -18,7 +18,7 @@ fn set_of<T: Ord + Copy + Drop>(alloc: Global, elements: &[T]) -> Result<BTreeSe
     Ok(set)
 }
 
-/// Returns the elements in order, each once.
+/// Returns the elements in order, each once. It returns an error if an allocation fails.
 pub fn sort_dedup<T: Ord + Copy + Drop>(alloc: Global, elements: &[T]) -> Result<Vec<T>, AllocError>
     ensures value { IfOk result (λ sorted. sorted.items ≡ sort_dedup T.cmp elements.now) }
     ensures rises { IfOk result (λ sorted. IsStrictlySortedBy T.cmp sorted.items) }

@@ -18,7 +18,8 @@ use Rattle.abc_voices_sections.specs.Section.{letters, sections}
 use Rattle.abc_voices_score.specs.declared.score.Score.{Score}
 use Rattle.abc_voices_sections.specs.declared.stage.VoicePart.{VoicePart}
 use Rattle.abc_voices_sections.specs.declared.stage.Stage.{Stage}
-use Rattle.abc_voices.specs.Turns.{IsStage, length_along, steps_of, notes_along, for_voices, voices_along, set_by_all, set_by_one, parts_differ}
+use Rattle.abc_voices.specs.Turns.{IsStage, steps_of, notes_along, for_voices, voices_along, set_by_all, set_by_one, parts_differ}
+use Rattle.abc_voices_sections.specs.Turns.{length_along}
 use Rattle.abc_voices.specs.Turns.{is_stage_uneven, first_place, changes_along, programs_by, programs_along, end_along, score_along}
 use Rattle.abc_voices.specs.Layout.{played_sections, voice_notes, all_notes, set_in, first_of, lengths_differ, is_uneven, voices_notes, last_off}
 use Rattle.abc_voices.specs.Layout.{end_of, changes_of, programs_in, programs_of, score_of, usual_tempo, arranged_of}
@@ -40,7 +41,7 @@ Sectioned = List ℕ × List Item
 pub total_of : (voices : List (List ℕ)) (played : List Sectioned) → length_along (map (stage_of voices) played) ≡ sum_by (section_length voices) played
 total_of voices [] = refl
 total_of voices (section ∷ played) =
-    sum_by_from (λ (stage : Stage). stage.longest.0) (0 + section_length voices section) (map (stage_of voices) played)
+    sum_by_from (λ (stage : Stage Item). stage.longest.0) (0 + section_length voices section) (map (stage_of voices) played)
     ∙ ap (λ n. (0 + section_length voices section) + n) (total_of voices played)
     ∙ sym (sum_by_from (section_length voices) (0 + section_length voices section) played)
 
@@ -86,7 +87,7 @@ all_here : {V : Type 0} (value_of : Item → Option V) (voices : List (List ℕ)
     → set_by_all value_of at (map (stage_of voices) played) ≡ set_in value_of voices voices at played
 all_here value_of voices at [] = refl
 all_here value_of voices at (section ∷ played) =
-    λ i. flat_map-map (λ (part : VoicePart). set_from value_of at part.steps) (part_of section) voices i ++ all_here value_of voices (at + section_length voices section) played i
+    λ i. flat_map-map (λ (part : VoicePart Item). set_from value_of at part.steps) (part_of section) voices i ++ all_here value_of voices (at + section_length voices section) played i
 
 -- what the voice at a place sets in a stage
 track_here : {V : Type 0} (value_of : Item → Option V) (section : Sectioned) (voices : List (List ℕ)) (k at : ℕ) (rest : List (List ℕ)) → drop k voices ≡ rest
@@ -216,7 +217,7 @@ score_of_stages tune =
     }
 
 -- the stages of the sections that a tune plays
-abbrev pub AreOf : List Item → List Stage → Type 0
+abbrev pub AreOf : List Item → List (Stage Item) → Type 0
 AreOf tune stages = stages ≡ map (stage_of (voice_names tune)) (played_sections tune)
 
 pub played_here : (tune : List Item) (found : List Sectioned) (order : List ℕ) → found ≡ sections tune
@@ -226,31 +227,31 @@ played_here tune found order p q = λ i. filter_map (slice_get (p i)) (q i)
 pub alike : {X Y : Type 0} (P : X → Y → Type 0) (a b : X) (u v : Y) → a ≡ b → u ≡ v → P a u → P b v
 alike P a b u v p q h = subst (P b) q (subst (λ x. P x u) p h)
 
-pub stages_hold : (tune : List Item) (stages : List Stage) → AreOf tune stages → All IsItem tune → All IsStage stages
+pub stages_hold : (tune : List Item) (stages : List (Stage Item)) → AreOf tune stages → All IsItem tune → All IsStage stages
 stages_hold tune stages is all =
     subst (All IsStage) (sym is)
     (stages_are (voice_names tune) (played_sections tune)
     (played_kept IsItem tune all))
 
-pub late_total : (tune : List Item) (stages : List Stage) → AreOf tune stages → grains_of_the_latest_end < length_along stages → grains_of_the_latest_end < end_of tune
+pub late_total : (tune : List Item) (stages : List (Stage Item)) → AreOf tune stages → grains_of_the_latest_end < length_along stages → grains_of_the_latest_end < end_of tune
 late_total tune stages is late =
     omega (arith, ap length_along is, total_of (voice_names tune) (played_sections tune), total_within tune)
 
-pub end_is : (tune : List Item) (stages : List Stage) (first count : ℕ) → AreOf tune stages → first ≡ first_place tune → count ≡ length (voice_names tune)
+pub end_is : (tune : List Item) (stages : List (Stage Item)) (first count : ℕ) → AreOf tune stages → first ≡ first_place tune → count ≡ length (voice_names tune)
     → end_along stages (voices_along stages first (count - first)) ≡ end_of tune
 end_is tune stages first count is p q =
     (λ i. end_along (is i) (voices_along (is i) (p i) (q i - p i))) ∙ end_of_stages tune
 
-pub late_end : (tune : List Item) (stages : List Stage) (first count : ℕ) → AreOf tune stages → first ≡ first_place tune → count ≡ length (voice_names tune)
+pub late_end : (tune : List Item) (stages : List (Stage Item)) (first count : ℕ) → AreOf tune stages → first ≡ first_place tune → count ≡ length (voice_names tune)
     → grains_of_the_latest_end < end_along stages (voices_along stages first (count - first)) → grains_of_the_latest_end < end_of tune
 late_end tune stages first count is p q late = omega (arith, end_is tune stages first count is p q)
 
-pub score_is : (tune : List Item) (stages : List Stage) (first count : ℕ) → AreOf tune stages → first ≡ first_place tune → count ≡ length (voice_names tune)
+pub score_is : (tune : List Item) (stages : List (Stage Item)) (first count : ℕ) → AreOf tune stages → first ≡ first_place tune → count ≡ length (voice_names tune)
     → score_along tune first count stages ≡ score_of tune
 score_is tune stages first count is p q =
     (λ i. score_along tune (p i) (q i) (is i)) ∙ score_of_stages tune
 
-pub uneven_is : (tune : List Item) (stages : List Stage) → AreOf tune stages
+pub uneven_is : (tune : List Item) (stages : List (Stage Item)) → AreOf tune stages
     → list_any is_stage_uneven stages ≡ list_any (is_uneven (voice_names tune)) (played_sections tune)
 uneven_is tune stages is = ap (list_any is_stage_uneven) is ∙ uneven_of (voice_names tune) (played_sections tune)
 

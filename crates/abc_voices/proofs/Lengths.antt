@@ -1,5 +1,6 @@
 -- Stages that are played one after another, one stage more.
 use Rattle.std.proofs.Common.{◌≡◌, ℕ, suc, max, ◌+◌, ◌-◌, ◌<◌, List, [], ◌∷◌, ◌++◌, drop, get_or, length, refl, sym, ap, subst, ◌∙◌, append_assoc, arith}
+use Rattle.std.specs.Borrow.{Bor}
 use Rattle.std.specs.Prelude.{All, Option, Some, None}
 use Rattle.std.specs.List.{flat_map}
 use Rattle.std.proofs.lemmas.List.{drop_more}
@@ -9,43 +10,45 @@ use Rattle.abc_bars_items.specs.declared.item.Item.{Item}
 use Rattle.abc_time.specs.declared.grains.Grains.{Grains}
 use Rattle.abc_voices_score.specs.declared.score.Sounding.{Sounding}
 use Rattle.abc_voices_sections.specs.declared.stage.Stage.{Stage}
-use Rattle.abc_voices.specs.declared.turns.Turn.{Turn}
-use Rattle.abc_voices.specs.Turns.{IsStage, stages_in, length_along, for_voices, set_at, set_by_one}
+use Rattle.abc_voices_sections.specs.declared.turns.Turn.{Turn}
+use Rattle.abc_voices_sections.specs.Stage.{stage_items}
+use Rattle.abc_voices.specs.Turns.{IsStage, stages_in, for_voices, set_at, set_by_one}
+use Rattle.abc_voices_sections.specs.Turns.{length_along}
 use Rattle.abc_voices.specs.Layout.{last_off}
 use Rattle.abc_voices.specs.Change.{after_opening}
 
 -- what holds of each stage holds at its turn
-pub are_stages : (turns : List Turn) → All IsStage (stages_in turns) → All (λ turn. IsStage turn.stage.now) turns
-are_stages [] all = All-nil (λ (turn : Turn). IsStage turn.stage.now)
+pub are_stages : (turns : List (Turn (Bor Item))) → All IsStage (stages_in turns) → All (λ turn. IsStage (stage_items turn.stage.now)) turns
+are_stages [] all = All-nil (λ (turn : Turn (Bor Item)). IsStage (stage_items turn.stage.now))
 are_stages (turn ∷ turns) all =
-    All-cons (λ (one : Turn). IsStage one.stage.now) turn turns (All-head IsStage turn.stage.now (stages_in turns) all)
-    (are_stages turns (All-tail IsStage turn.stage.now (stages_in turns) all))
+    All-cons (λ (one : Turn (Bor Item)). IsStage (stage_items one.stage.now)) turn turns (All-head IsStage (stage_items turn.stage.now) (stages_in turns) all)
+    (are_stages turns (All-tail IsStage (stage_items turn.stage.now) (stages_in turns) all))
 
 -- the stages from one on
-front : (turns : List Turn) (k : ℕ) (turn : Turn) → k < length turns → turn ≡ get_or turns k turn → drop k turns ≡ turn ∷ drop (k + 1) turns
+front : (turns : List (Turn (Bor Item))) (k : ℕ) (turn : Turn (Bor Item)) → k < length turns → turn ≡ get_or turns k turn → drop k turns ≡ turn ∷ drop (k + 1) turns
 front turns k turn within is = drop_more turns k turn within ∙ ap (λ t. t ∷ drop (k + 1) turns) (sym is)
 
 -- how long they are
-pub length_step : (turns : List Turn) (k : ℕ) (turn : Turn) → k < length turns → turn ≡ get_or turns k turn
+pub length_step : (turns : List (Turn (Bor Item))) (k : ℕ) (turn : Turn (Bor Item)) → k < length turns → turn ≡ get_or turns k turn
     → length_along (stages_in (drop k turns)) ≡ turn.stage.now.longest.0 + length_along (stages_in (drop (k + 1) turns))
 length_step turns k turn within is =
     ap (λ ts. length_along (stages_in ts)) (front turns k turn within is)
-    ∙ sum_by-cons (λ (stage : Stage). stage.longest.0) turn.stage.now (stages_in (drop (k + 1) turns))
+    ∙ sum_by-cons (λ (stage : Stage Item). stage.longest.0) (stage_items turn.stage.now) (stages_in (drop (k + 1) turns))
 
 -- what one voice sets, one stage further
-pub set_one_step : {V : Type 0} (value_of : Item → Option V) (voice : ℕ) (turns : List Turn) (k at : ℕ) (seen whole : List (Grains × V)) (turn : Turn)
+pub set_one_step : {V : Type 0} (value_of : Item → Option V) (voice : ℕ) (turns : List (Turn (Bor Item))) (k at : ℕ) (seen whole : List (Grains × V)) (turn : Turn (Bor Item))
     → k < length turns → turn ≡ get_or turns k turn → seen ++ set_by_one value_of voice at (stages_in (drop k turns)) ≡ whole
-    → (seen ++ set_at value_of voice at turn.stage.now) ++ set_by_one value_of voice (at + turn.stage.now.longest.0) (stages_in (drop (k + 1) turns)) ≡ whole
+    → (seen ++ set_at value_of voice at (stage_items turn.stage.now)) ++ set_by_one value_of voice (at + turn.stage.now.longest.0) (stages_in (drop (k + 1) turns)) ≡ whole
 set_one_step value_of voice turns k at seen whole turn within is before =
-    append_assoc seen (set_at value_of voice at turn.stage.now) (set_by_one value_of voice (at + turn.stage.now.longest.0) (stages_in (drop (k + 1) turns)))
+    append_assoc seen (set_at value_of voice at (stage_items turn.stage.now)) (set_by_one value_of voice (at + turn.stage.now.longest.0) (stages_in (drop (k + 1) turns)))
     ∙ ap (λ ts. seen ++ set_by_one value_of voice at (stages_in ts)) (sym (front turns k turn within is))
     ∙ before
 
 -- one of the stages that are played
-pub stage_played : (turns : List Turn) (k : ℕ) (turn : Turn) → k < length turns → turn ≡ get_or turns k turn
-    → All (λ turn. IsStage turn.stage.now) turns → IsStage turn.stage.now
+pub stage_played : (turns : List (Turn (Bor Item))) (k : ℕ) (turn : Turn (Bor Item)) → k < length turns → turn ≡ get_or turns k turn
+    → All (λ turn. IsStage (stage_items turn.stage.now)) turns → IsStage (stage_items turn.stage.now)
 stage_played turns k turn within is all =
-    subst (λ (one : Turn). IsStage one.stage.now) (sym is) (All-get_or (λ (one : Turn). IsStage one.stage.now) turns k turn within all)
+    subst (λ (one : Turn (Bor Item)). IsStage (stage_items one.stage.now)) (sym is) (All-get_or (λ (one : Turn (Bor Item)). IsStage (stage_items one.stage.now)) turns k turn within all)
 
 -- what one voice more has
 voices_more : {X : Type 0} (one : ℕ → X) (voice count : ℕ) → voice < count

@@ -1,3 +1,4 @@
+pub mod Borrowed
 pub mod Chains
 pub mod Conductor
 pub mod Endings
@@ -10,7 +11,6 @@ pub mod Names
 pub mod OfFields
 pub mod OnTicks
 pub mod Orders
-pub mod Placed
 pub mod Staged
 pub mod Steady
 pub mod Ties

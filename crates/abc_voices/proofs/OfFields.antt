@@ -125,7 +125,7 @@ title_of_fields : (tune : List Item) → title_of (without_music tune) ≡ title
 title_of_fields tune = from_right (title_of) title_before (λ _ _. refl) title_kept tune
 
 -- the score of stages
-score_without_music : (tune : List Item) (first count : ℕ) (stages : List Stage) → score_along (without_music tune) first count stages ≡ score_along tune first count stages
+score_without_music : (tune : List Item) (first count : ℕ) (stages : List (Stage Item)) → score_along (without_music tune) first count stages ≡ score_along tune first count stages
 score_without_music tune first count stages =
     let voices = voices_along stages first (count - first) in
     λ i. record {
@@ -139,7 +139,7 @@ score_without_music tune first count stages =
       programs = programs_along (after_fields program_after program_kept tune i) stages first (count - first);
     }
 
-pub score_of_fields : (tune fields : List Item) (first count : ℕ) (stages : List Stage) → fields ≡ without_music tune
+pub score_of_fields : (tune fields : List Item) (first count : ℕ) (stages : List (Stage Item)) → fields ≡ without_music tune
     → score_along fields first count stages ≡ score_along tune first count stages
 score_of_fields tune fields first count stages is =
     ap (λ g. score_along g first count stages) is ∙ score_without_music tune first count stages

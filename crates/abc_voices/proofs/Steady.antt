@@ -42,26 +42,26 @@ module _ {V : Type 0} (value_of : Item → Option V) (kind : Item → Bool) (set
       ap (λ value. cons_option (at_moment at value) (set_from value_of (at + length_of step) steps)) (sets_none step (All-head SetsNone step steps plain))
       ∙ set_by_steps (at + length_of step) steps (All-tail SetsNone step steps plain)
 
-  abbrev SetsNonePart : VoicePart → Type 0
+  abbrev SetsNonePart : VoicePart Item → Type 0
   SetsNonePart part = All SetsNone part.steps
 
-  set_by_parts : (at : ℕ) (parts : List VoicePart) → All SetsNonePart parts → flat_map (λ part. set_from value_of at part.steps) parts ≡ []
+  set_by_parts : (at : ℕ) (parts : List (VoicePart Item)) → All SetsNonePart parts → flat_map (λ part. set_from value_of at part.steps) parts ≡ []
   set_by_parts at [] plain = refl
   set_by_parts at (part ∷ parts) plain =
       ap (λ sets. sets ++ flat_map (λ p. set_from value_of at p.steps) parts) (set_by_steps at part.steps (All-head SetsNonePart part parts plain))
       ∙ set_by_parts at parts (All-tail SetsNonePart part parts plain)
 
-  all_set_nothing : (at : ℕ) (stages : List Stage) → All (PlaysNone kind) stages → set_by_all value_of at stages ≡ []
+  all_set_nothing : (at : ℕ) (stages : List (Stage Item)) → All (PlaysNone kind) stages → set_by_all value_of at stages ≡ []
   all_set_nothing at [] steady = refl
   all_set_nothing at (stage ∷ stages) steady =
       ap (λ sets. sets ++ set_by_all value_of (at + stage.longest.0) stages) (set_by_parts at stage.parts (All-head (PlaysNone kind) stage stages steady))
       ∙ all_set_nothing (at + stage.longest.0) stages (All-tail (PlaysNone kind) stage stages steady)
 
-  set_by_part : (at : ℕ) (part : Option VoicePart) → IfSome part SetsNonePart → set_from value_of at (steps_of part) ≡ []
+  set_by_part : (at : ℕ) (part : Option (VoicePart Item)) → IfSome part SetsNonePart → set_from value_of at (steps_of part) ≡ []
   set_by_part at None plain = refl
   set_by_part at (Some part) plain = set_by_steps at part.steps plain
 
-  one_sets_nothing : (voice at : ℕ) (stages : List Stage) → All (PlaysNone kind) stages → set_by_one value_of voice at stages ≡ []
+  one_sets_nothing : (voice at : ℕ) (stages : List (Stage Item)) → All (PlaysNone kind) stages → set_by_one value_of voice at stages ≡ []
   one_sets_nothing voice at [] steady = refl
   one_sets_nothing voice at (stage ∷ stages) steady =
       ap (λ sets. sets ++ set_by_one value_of voice (at + stage.longest.0) stages)
@@ -112,9 +112,9 @@ module _ (kind : Item → Bool) (music_not : (item : Item) → is_music item ≡
 
   plain_parts : (section : List ℕ × List Item) (voices : List (List ℕ)) → All ChangesNothing section.1
       → All (λ part. All IsPlain part.steps) (map (part_of section) voices)
-  plain_parts section [] none = All-nil (λ (part : VoicePart). All IsPlain part.steps)
+  plain_parts section [] none = All-nil (λ (part : VoicePart Item). All IsPlain part.steps)
   plain_parts (opening, steps) (voice ∷ voices) none =
-      All-cons (λ (part : VoicePart). All IsPlain part.steps) (part_of (opening, steps) voice) (map (part_of (opening, steps)) voices)
+      All-cons (λ (part : VoicePart Item). All IsPlain part.steps) (part_of (opening, steps) voice) (map (part_of (opening, steps)) voices)
       (part_played IsPlain opening steps voice (plain_part voice opening steps none)) (plain_parts (opening, steps) voices none)
 
   steady_stages : (voices : List (List ℕ)) (played : List (List ℕ × List Item)) → All (λ section. All ChangesNothing section.1) played
@@ -125,7 +125,7 @@ module _ (kind : Item → Bool) (music_not : (item : Item) → is_music item ≡
       All-cons (PlaysNone kind) (stage_of voices section) (map (stage_of voices) played) (plain_parts section voices (All-head P section played none))
       (steady_stages voices played (All-tail P section played none))
 
-  pub none_along : (tune fields : List Item) (stages : List Stage) → fields ≡ without_music tune
+  pub none_along : (tune fields : List Item) (stages : List (Stage Item)) → fields ≡ without_music tune
       → stages ≡ map (stage_of (voice_names tune)) (played_sections tune)
       → none_of fields ≡ true → All (PlaysNone kind) stages
   none_along tune fields stages is are steady =
@@ -140,12 +140,12 @@ music_plain item music = of_music is_change false (λ _ _. refl) (λ _ _. refl) 
 music_keeps : (item : Item) → is_music item ≡ true → (sets_program item && is_step item) ≡ false
 music_keeps item music = of_music (λ one. sets_program one && is_step one) false (λ _ _. refl) (λ _ _. refl) (λ _. refl) (λ _. refl) item music
 
-pub steady_along : (tune fields : List Item) (stages : List Stage) → fields ≡ without_music tune
+pub steady_along : (tune fields : List Item) (stages : List (Stage Item)) → fields ≡ without_music tune
     → stages ≡ map (stage_of (voice_names tune)) (played_sections tune)
     → is_steady fields ≡ true → All IsSteady stages
 steady_along = none_along is_field music_plain
 
-pub kept_along : (tune fields : List Item) (stages : List Stage) → fields ≡ without_music tune
+pub kept_along : (tune fields : List Item) (stages : List (Stage Item)) → fields ≡ without_music tune
     → stages ≡ map (stage_of (voice_names tune)) (played_sections tune)
     → keeps_programs fields ≡ true → All (PlaysNone sets_program) stages
 kept_along = none_along sets_program music_keeps
@@ -154,7 +154,7 @@ kept_along = none_along sets_program music_keeps
 pub opening_is : {V : Type 0} (found last : Option V) (usual value : V) → value ≡ unwrap_or found usual → found ≡ last → value ≡ unwrap_or last usual
 opening_is found last usual value is same = is ∙ ap (λ last. unwrap_or last usual) same
 
-pub steady_changes : (fields : List Item) (first : ℕ) (stages : List Stage) (tempo : ℕ) (meter : Meter) (key : ℤ × Bool) → All IsSteady stages
+pub steady_changes : (fields : List Item) (first : ℕ) (stages : List (Stage Item)) (tempo : ℕ) (meter : Meter) (key : ℤ × Bool) → All IsSteady stages
     → tempo ≡ unwrap_or (after_all tempo_after None fields) usual_tempo → meter ≡ unwrap_or (after_all meter_after None fields) meters.Free
     → key ≡ unwrap_or (after_all key_after None fields) (pos 0, false)
     → changes_in_force ((record { 0 = 0 }, tempo) ∷ []) ((record { 0 = 0 }, meter) ∷ []) ((record { 0 = 0 }, key) ∷ []) ≡ changes_along fields first stages
@@ -169,11 +169,11 @@ no_program : (value : Option ℕ) → is_some value ≡ false → value ≡ None
 no_program None h = refl
 no_program (Some number) h = cc
 
-one_keeps : (opening : Option ℕ) (voice : ℕ) (stages : List Stage) → All (PlaysNone sets_program) stages → programs_by opening [] voice ≡ programs_by opening stages voice
+one_keeps : (opening : Option ℕ) (voice : ℕ) (stages : List (Stage Item)) → All (PlaysNone sets_program) stages → programs_by opening [] voice ≡ programs_by opening stages voice
 one_keeps opening voice stages kept =
     ap (λ sets. programs_in_force (after_opening opening sets)) (sym (one_sets_nothing program_of sets_program (λ item. no_program (program_of item)) voice 0 stages kept))
 
-pub programs_kept : (opening : Option ℕ) (voice count : ℕ) (stages : List Stage) → All (PlaysNone sets_program) stages
+pub programs_kept : (opening : Option ℕ) (voice count : ℕ) (stages : List (Stage Item)) → All (PlaysNone sets_program) stages
     → programs_along opening [] voice count ≡ programs_along opening stages voice count
 programs_kept opening voice zero stages kept = refl
 programs_kept opening voice (suc count) stages kept =

@@ -13,7 +13,8 @@ use Rattle.abc_fields.specs.Parts.{parts_of}
 use Rattle.abc_time.specs.declared.grains.Grains.{Grains}
 use Rattle.abc_voices_sections.specs.declared.stage.VoicePart.{VoicePart}
 use Rattle.abc_voices_sections.specs.declared.stage.Stage.{Stage}
-use Rattle.abc_voices.specs.Turns.{IsPart, IsStage, length_along, steps_of, set_by_all, set_by_one}
+use Rattle.abc_voices.specs.Turns.{IsPart, IsStage, steps_of, set_by_all, set_by_one}
+use Rattle.abc_voices_sections.specs.Turns.{length_along}
 use Rattle.abc_voices.specs.Change.{at_moment, set_from, after_opening}
 use Rattle.abc_voices.specs.Opening.{order_after, after_all}
 use Rattle.abc_voices_sections.specs.Play.{duration}
@@ -39,12 +40,12 @@ steps_before value_of end at (step ∷ steps) early =
     (steps_before value_of end (at + length_of step) steps (omega (arith, sum)))
 
 -- what a part sets
-part_before : {V : Type 0} (value_of : Item → Option V) (end at : ℕ) (longest : Grains) (part : VoicePart) → at + longest.0 ≤ end → IsPart longest part
+part_before : {V : Type 0} (value_of : Item → Option V) (end at : ℕ) (longest : Grains) (part : VoicePart Item) → at + longest.0 ≤ end → IsPart longest part
     → All (IsBefore end) (set_from value_of at part.steps)
 part_before value_of end at longest part early is = steps_before value_of end at part.steps (omega arith)
 
 -- what parts set
-parts_before : {V : Type 0} (value_of : Item → Option V) (end at : ℕ) (longest : Grains) (parts : List VoicePart) → at + longest.0 ≤ end → All (IsPart longest) parts
+parts_before : {V : Type 0} (value_of : Item → Option V) (end at : ℕ) (longest : Grains) (parts : List (VoicePart Item)) → at + longest.0 ≤ end → All (IsPart longest) parts
     → All (IsBefore end) (flat_map (λ part. set_from value_of at part.steps) parts)
 parts_before value_of end at longest [] early all = All-nil (IsBefore end)
 parts_before value_of end at longest (part ∷ parts) early all =
@@ -53,28 +54,28 @@ parts_before value_of end at longest (part ∷ parts) early all =
     (parts_before value_of end at longest parts early (All-tail (IsPart longest) part parts all))
 
 -- what all voices set
-all_before : {V : Type 0} (value_of : Item → Option V) (end at : ℕ) (stages : List Stage) → at + length_along stages ≤ end → All IsStage stages
+all_before : {V : Type 0} (value_of : Item → Option V) (end at : ℕ) (stages : List (Stage Item)) → at + length_along stages ≤ end → All IsStage stages
     → All (IsBefore end) (set_by_all value_of at stages)
 all_before value_of end at [] early all = All-nil (IsBefore end)
 all_before value_of end at (stage ∷ stages) early all =
-    let sum = sum_by_from (λ (s : Stage). s.longest.0) (0 + stage.longest.0) stages in
+    let sum = sum_by_from (λ (s : Stage Item). s.longest.0) (0 + stage.longest.0) stages in
     let is : IsStage stage = All-head IsStage stage stages all in
     All-append (IsBefore end) (flat_map (λ part. set_from value_of at part.steps) stage.parts) (set_by_all value_of (at + stage.longest.0) stages)
     (parts_before value_of end at stage.longest stage.parts (omega (arith, sum)) is.parts)
     (all_before value_of end (at + stage.longest.0) stages (omega (arith, sum)) (All-tail IsStage stage stages all))
 
 -- what a part sets, if there is one
-if_part_before : {V : Type 0} (value_of : Item → Option V) (end at : ℕ) (longest : Grains) (part : Option VoicePart) → at + longest.0 ≤ end → IfSome part (IsPart longest)
+if_part_before : {V : Type 0} (value_of : Item → Option V) (end at : ℕ) (longest : Grains) (part : Option (VoicePart Item)) → at + longest.0 ≤ end → IfSome part (IsPart longest)
     → All (IsBefore end) (set_from value_of at (steps_of part))
 if_part_before value_of end at longest None early is = All-nil (IsBefore end)
 if_part_before value_of end at longest (Some part) early is = part_before value_of end at longest part early is
 
 -- what one voice sets
-one_before : {V : Type 0} (value_of : Item → Option V) (voice end at : ℕ) (stages : List Stage) → at + length_along stages ≤ end → All IsStage stages
+one_before : {V : Type 0} (value_of : Item → Option V) (voice end at : ℕ) (stages : List (Stage Item)) → at + length_along stages ≤ end → All IsStage stages
     → All (IsBefore end) (set_by_one value_of voice at stages)
 one_before value_of voice end at [] early all = All-nil (IsBefore end)
 one_before value_of voice end at (stage ∷ stages) early all =
-    let sum = sum_by_from (λ (s : Stage). s.longest.0) (0 + stage.longest.0) stages in
+    let sum = sum_by_from (λ (s : Stage Item). s.longest.0) (0 + stage.longest.0) stages in
     let is : IsStage stage = All-head IsStage stage stages all in
     All-append (IsBefore end) (set_from value_of at (steps_of (slice_get stage.parts voice))) (set_by_one value_of voice (at + stage.longest.0) stages)
     (if_part_before value_of end at stage.longest (slice_get stage.parts voice) (omega (arith, sum))
@@ -82,13 +83,13 @@ one_before value_of voice end at (stage ∷ stages) early all =
     (one_before value_of voice end (at + stage.longest.0) stages (omega (arith, sum)) (All-tail IsStage stage stages all))
 
 -- after what holds at the beginning
-pub all_set : {V : Type 0} (value_of : Item → Option V) (opening : V) (end : ℕ) (stages : List Stage) (sets : List (Grains × V)) → length_along stages ≤ end → All IsStage stages
+pub all_set : {V : Type 0} (value_of : Item → Option V) (opening : V) (end : ℕ) (stages : List (Stage Item)) (sets : List (Grains × V)) → length_along stages ≤ end → All IsStage stages
     → sets ≡ (record { 0 = 0 }, opening) ∷ set_by_all value_of 0 stages → All (IsBefore end) sets
 all_set value_of opening end stages sets early all e =
     subst (All (IsBefore end)) (sym e)
     (All-cons (IsBefore end) (record { 0 = 0 }, opening) (set_by_all value_of 0 stages) (omega arith) (all_before value_of end 0 stages (omega arith) all))
 
-pub one_set : {V : Type 0} (value_of : Item → Option V) (voice : ℕ) (opening : Option V) (end : ℕ) (stages : List Stage) (sets : List (Grains × V)) → length_along stages ≤ end → All IsStage stages
+pub one_set : {V : Type 0} (value_of : Item → Option V) (voice : ℕ) (opening : Option V) (end : ℕ) (stages : List (Stage Item)) (sets : List (Grains × V)) → length_along stages ≤ end → All IsStage stages
     → sets ≡ after_opening opening (set_by_one value_of voice 0 stages) → All (IsBefore end) sets
 one_set value_of voice opening end stages sets early all e =
     subst (All (IsBefore end)) (sym e)

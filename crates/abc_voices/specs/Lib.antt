@@ -10,7 +10,6 @@ pub mod OnTicks
 pub mod Opening
 pub mod Orders
 pub mod ScoreChanges
-pub mod Stages
 pub mod Ticks
 pub mod TiedNotes
 pub mod Ties

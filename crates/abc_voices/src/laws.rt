@@ -12,23 +12,23 @@ ghost use Rattle.abc_voices.specs.Tracks.{HaveTracksByMention};
 ghost use Rattle.abc_voices.specs.Uneven.{UnevenByLengths};
 ghost use Rattle.abc_voices.specs.Voices.{AreOfVoices};
 
-/// The voice that plays an item is that of the last V: of the body before it. If there is none, it is the first declared
-/// voice, else the voice without a name.
+/// The voice that plays an item is that of the last V: of the body before it. If there is none, it is the first declared voice,
+/// else the voice without a name (ABC 2.1 section 7).
 #[tactic(auto, using(crate::proofs::Voices::are_of_voices))]
 pub fn voices_by_looking_back()
     ensures { AreOfVoices }
 {}
 
-/// The tracks of a tune are those of the voices that it mentions, each once, in the order of their first mention in the
-/// header or in the body. The voice without a name has a track before them if it has a note, chord or rest before the
-/// first V: of the body.
+/// The tracks of a tune are those of the voices that it mentions, each once, in the order of their first mention in the header
+/// or in the body. The voice without a name has a track before them if it has a note, chord or rest before the first V: of the
+/// body (ABC 2.1 section 7.1).
 #[tactic(auto, using(crate::proofs::Tracks::have_tracks))]
 pub fn tracks_by_mention()
     ensures { HaveTracksByMention }
 {}
 
-/// The notes of a voice are the longest chains of tied tones. A tied tone is joined with one of its key in the next time
-/// token that is played. Of a key, the first tied tone is joined with the first tone, and so on.
+/// The notes of a voice are the longest chains of tied tones. A tied tone is joined with one of its key in the next time token
+/// that is played. Of a key, the first tied tone is joined with the first tone, and so on (ABC 2.1 section 4.11).
 pub fn ties_in_play()
     ensures chains { HearsChains }
     ensures once { HearsNoOthers }

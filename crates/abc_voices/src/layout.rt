@@ -19,22 +19,22 @@ ghost use Rattle.abc_voices_score.specs.Limits.{IsWithinLimits};
 ghost use Rattle.abc_voices_score.specs.declared.limits.TheConstants.{LONGEST_TITLE};
 ghost use Rattle.abc_voices.specs.Opening.{order_after, after_all};
 ghost use Rattle.abc_voices_sections.specs.Section.{letters, sections};
-ghost use Rattle.abc_voices_sections.specs.Stage.{content, stage_of};
-ghost use Rattle.abc_voices.specs.Stages.{at_places};
+ghost use Rattle.abc_voices_sections.specs.Stage.{content, stage_items, stage_of};
+ghost use Rattle.abc_voices_sections.specs.Table.{at_places};
 ghost use Rattle.abc_voices.specs.Track.{voice_names};
 
 use crate::arranged::{Arranged, BuildFault};
 use crate::fields::without_music;
 use crate::opening::order_of;
-use crate::stages::{stages, turns_in_order};
 use crate::track::{has_unnamed_track, voice_names};
 use crate::tune_score::score_along;
-use crate::turns::{Turn, is_uneven, length_along};
+use crate::uneven_stages::is_uneven;
 use abc_bars_items::{Item, Items, MOST_VOICES};
 use abc_repeat::{OrderFault, Played, play_order};
 use abc_voices_score::{LONGEST_TITLE, Score};
 use abc_voices_sections::{
-    Section, Stage, StageError, has_one_section, letters, only_section, opening_voice, sections,
+    Section, Stage, StageError, Turn, has_one_section, length_along, letters, only_section,
+    opening_voice, sections, stages, turns_in_order,
 };
 use std::alloc::{AllocError, Global};
 
@@ -110,7 +110,7 @@ fn sections_of<'s, 't>(
     alloc: Global,
     tune: &'s [&'t Item],
     fields: &[&'t Item],
-) -> Result<Vec<Section<'s, 't>>, AllocError>
+) -> Result<Vec<Section<'s, &'t Item>>, AllocError>
     requires { items_of fields.now ≡ without_music (items_of tune.now) }
     ensures { IfOk result (λ found. map content found.items ≡ sections (items_of tune.entry.now)) }
 {
@@ -128,11 +128,11 @@ fn stages_of<'t>(
     fields: &[&'t Item],
     voices: &[&[u8]],
     played: &[usize],
-) -> Result<Vec<Option<Stage<'t>>>, StageError>
+) -> Result<Vec<Option<Stage<&'t Item>>>, StageError>
     requires fields { items_of fields.now ≡ without_music (items_of tune.now) }
     requires voices { map (λ voice. voice.now) voices.now ≡ voice_names (items_of tune.now) }
     requires played { played.now ≡ sections_of (after_all order_after None (items_of tune.now)) (letters (items_of tune.now)) }
-    ensures value { IfOk result (λ table. at_places table.items played.now
+    ensures value { IfOk result (λ table. map stage_items (at_places table.items played.now)
         ≡ map (stage_of (voice_names (items_of tune.now))) (played_sections (items_of tune.now))) }
     ensures few { IfOk result (λ _. places_played (items_of tune.now) ≤ MOST_PLACES) }
     ensures too_many { result ≡ Err TooMany → MOST_PLACES < places_played (items_of tune.now) }
@@ -147,7 +147,7 @@ fn lay_out_turns(
     alloc: Global,
     tune: &[&Item],
     fields: &[&Item],
-    turns: &[Turn],
+    turns: &[Turn<'_, &Item>],
     count: usize,
 ) -> Result<(Score, bool), StageError>
     requires tune { All IsItem (items_of tune.now) }

@@ -11,13 +11,12 @@ mod programs;
 mod score_changes;
 mod setting;
 mod stage_settings;
-mod stages;
 mod ticks;
 mod tied_notes;
 mod timing;
 mod track;
 mod tune_score;
-mod turns;
+mod uneven_stages;
 mod voice;
 
 pub use abc_bars_items::{HIGHEST_KEY, Items, MOST_CHORD_NOTES, MOST_VOICES};

@@ -18,7 +18,8 @@ fn put_name<'a>(known: &mut IndexSet<&'a [u8]>, name: &'a [u8]) -> Result<(), Al
     Ok(())
 }
 
-/// Returns the names of the voices of a tune, first the empty one for the voice without a name.
+/// Returns the names of the voices of a tune, first the empty one for the voice without a name. It returns an error if an
+/// allocation fails.
 pub fn voice_names<'a>(alloc: Global, tune: &[&'a Item]) -> Result<IndexSet<&'a [u8]>, AllocError>
     ensures { IfOk result (λ voices. map (λ voice. voice.now) voices.keys ≡ voice_names (items_of tune.now)) }
 {

@@ -5,8 +5,10 @@ ghost use Rattle.std.specs.List.{flat_map};
 ghost use Rattle.abc_time.specs.Grains.{grains_of_the_latest_end};
 ghost use Rattle.abc_voices_sections.specs.Items.{items_of};
 ghost use Rattle.abc_voices_sections.specs.declared.stage.StageError.TheVariants.{TooMany, TooLate};
-ghost use Rattle.abc_voices.specs.Turns.{IsStage, IsSteady, PlaysNone, stages_in, length_along, voices_along, changes_along};
+ghost use Rattle.abc_voices.specs.Turns.{IsStage, IsSteady, PlaysNone, stages_in, voices_along, changes_along};
 ghost use Rattle.abc_voices.specs.Turns.{end_along, score_along};
+ghost use Rattle.abc_voices_sections.specs.Stage.{stage_items};
+ghost use Rattle.abc_voices_sections.specs.Turns.{length_along};
 ghost use Rattle.abc_voices.specs.Layout.{last_off};
 ghost use Rattle.abc_voices.specs.Fields.{is_steady, sets_program, keeps_programs};
 
@@ -17,14 +19,13 @@ use crate::score_changes::changes_in_force;
 use crate::setting::{Keys, Meters};
 use crate::stage_settings::{one_along, tempos_along};
 use crate::timing::last_off;
-use crate::turns::Turn;
 use crate::voice::voices_notes;
 use abc_bars_items::Item;
 use abc_fields::Meter;
 use abc_text::Sequence;
 use abc_time::{Grains, LATEST_END};
 use abc_voices_score::{Change, Score, Sounding};
-use abc_voices_sections::StageError;
+use abc_voices_sections::{StageError, Turn};
 use std::alloc::{AllocError, Global};
 
 /// The microseconds of a quarter note if no tempo is set: 120 quarters a minute.
@@ -34,10 +35,10 @@ const USUAL_TEMPO: u32 = 500_000;
 fn changes_along(
     alloc: Global,
     fields: &[&Item],
-    turns: &[Turn],
+    turns: &[Turn<'_, &Item>],
     first: usize,
 ) -> Result<Vec<Change>, AllocError>
-    requires stages { All (λ turn. IsStage turn.stage.now) turns.now }
+    requires stages { All (λ turn. IsStage (stage_items turn.stage.now)) turns.now }
     requires in_time { length_along (stages_in turns.now) ≤ grains_of_the_latest_end }
     requires steady { is_steady (items_of fields.now) ≡ true → All IsSteady (stages_in turns.now) }
     ensures { IfOk result (λ changes. changes.items ≡ changes_along (items_of fields.now) first (stages_in turns.now)) }
@@ -73,12 +74,12 @@ fn latest_end(at: Grains, voices: &[Sequence<Sounding>]) -> Grains
 pub(crate) fn score_along(
     alloc: Global,
     fields: &[&Item],
-    turns: &[Turn],
+    turns: &[Turn<'_, &Item>],
     total: Grains,
     first: usize,
     count: usize,
 ) -> Result<Score, StageError>
-    requires stages { All (λ turn. IsStage turn.stage.now) turns.now }
+    requires stages { All (λ turn. IsStage (stage_items turn.stage.now)) turns.now }
     requires total { total.0 ≡ length_along (stages_in turns.now) }
     requires in_time { total.0 ≤ grains_of_the_latest_end }
     requires steady { is_steady (items_of fields.now) ≡ true → All IsSteady (stages_in turns.now) }

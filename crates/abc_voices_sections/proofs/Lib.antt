@@ -1,10 +1,13 @@
+pub mod AsItems
 pub mod Cuts
 pub mod ItemRuns
 pub mod Items
 pub mod OneByOne
 pub mod Owned
+pub mod Placed
 pub mod Played
 pub mod Singles
+pub mod StagesAsItems
 pub mod Unmoved
 pub mod Waiting
 pub mod Whole

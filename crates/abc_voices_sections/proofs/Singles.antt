@@ -12,60 +12,60 @@ use Rattle.abc_repeat.proofs.Readings.{single_stays}
 use Rattle.abc_repeat.proofs.Whole.{bars_passed}
 use Rattle.abc_voices_sections.specs.declared.ending_fields.EndingRegion.{EndingRegion}
 use Rattle.abc_voices_sections.specs.declared.ending_fields.EndingRegion.TheVariants.{Common, Inside, AfterBar}
-use Rattle.abc_voices_sections.specs.EndingFields.{waits, after_mark, after_bar, region_after, put_with_waiting, with_fields_in_endings_from, with_fields_in_endings}
-use Rattle.abc_voices_sections.specs.Play.{places_of, played_items, without_single_bars}
+use Rattle.abc_voices_sections.specs.EndingFields.{waits, after_mark, after_bar, region_after, with_waiting, ordered_from, ordered}
+use Rattle.abc_voices_sections.specs.Play.{places, played, without_single_bars}
 use Rattle.abc_voices_sections.specs.Step.{is_field, mark_of}
 use Rattle.abc_voices_sections.specs.ItemRuns.{single_run}
 use Rattle.abc_voices_sections.proofs.OneByOne.{one_by_one, as_many}
 
 -- whether it changes something
-abbrev matters : Item → Bool
-matters step = not (is_single (mark_of step))
+abbrev matters : {A : Type 0} → (A → Item) → A → Bool
+matters item_of step = not (is_single (mark_of (item_of step)))
 
-left_out : (step : Item) (steps : List Item) → is_single (mark_of step) ≡ true → without_single_bars (step ∷ steps) ≡ without_single_bars steps
-left_out step steps h = ap (λ b. cond (not b) (step ∷ without_single_bars steps) (without_single_bars steps)) h
+left_out : {A : Type 0} (item_of : A → Item) (step : A) (steps : List A) → is_single (mark_of (item_of step)) ≡ true → without_single_bars item_of (step ∷ steps) ≡ without_single_bars item_of steps
+left_out item_of step steps h = ap (λ b. cond (not b) (step ∷ without_single_bars item_of steps) (without_single_bars item_of steps)) h
 
-kept : (step : Item) (steps : List Item) → is_single (mark_of step) ≡ false → without_single_bars (step ∷ steps) ≡ step ∷ without_single_bars steps
-kept step steps h = ap (λ b. cond (not b) (step ∷ without_single_bars steps) (without_single_bars steps)) h
+kept : {A : Type 0} (item_of : A → Item) (step : A) (steps : List A) → is_single (mark_of (item_of step)) ≡ false → without_single_bars item_of (step ∷ steps) ≡ step ∷ without_single_bars item_of steps
+kept item_of step steps h = ap (λ b. cond (not b) (step ∷ without_single_bars item_of steps) (without_single_bars item_of steps)) h
 
 -- with or without a bar line that changes nothing, or with what matters
-one_played : (before : List (Run Item)) (step : Item) (steps : List Item) (single : Bool) → is_single (mark_of step) ≡ single
-    → ((front : List (Run Item)) → items_played (front ++ map single_run (without_single_bars steps)) ≡ items_played (front ++ map single_run steps))
-    → items_played (before ++ map single_run (without_single_bars (step ∷ steps))) ≡ items_played (before ++ map single_run (step ∷ steps))
-one_played before step steps true h rest =
-    ap (λ l. items_played (before ++ map single_run l)) (left_out step steps h)
+one_played : {A : Type 0} (item_of : A → Item) (before : List (Run A)) (step : A) (steps : List A) (single : Bool) → is_single (mark_of (item_of step)) ≡ single
+    → ((front : List (Run A)) → items_played (front ++ map (single_run item_of) (without_single_bars item_of steps)) ≡ items_played (front ++ map (single_run item_of) steps))
+    → items_played (before ++ map (single_run item_of) (without_single_bars item_of (step ∷ steps))) ≡ items_played (before ++ map (single_run item_of) (step ∷ steps))
+one_played item_of before step steps true h rest =
+    ap (λ l. items_played (before ++ map (single_run item_of) l)) (left_out item_of step steps h)
     ∙ rest before
-    ∙ sym (bars_passed before (map single_run steps) (single_run step) h)
-one_played before step steps false h rest =
-    ap (λ l. items_played (before ++ map single_run l)) (kept step steps h)
-    ∙ ap items_played (sym (append_assoc before (single_run step ∷ []) (map single_run (without_single_bars steps))))
-    ∙ rest (before ++ single_run step ∷ [])
-    ∙ ap items_played (append_assoc before (single_run step ∷ []) (map single_run steps))
+    ∙ sym (bars_passed before (map (single_run item_of) steps) (single_run item_of step) h)
+one_played item_of before step steps false h rest =
+    ap (λ l. items_played (before ++ map (single_run item_of) l)) (kept item_of step steps h)
+    ∙ ap items_played (sym (append_assoc before (single_run item_of step ∷ []) (map (single_run item_of) (without_single_bars item_of steps))))
+    ∙ rest (before ++ single_run item_of step ∷ [])
+    ∙ ap items_played (append_assoc before (single_run item_of step ∷ []) (map (single_run item_of) steps))
 
 -- nothing is played otherwise without them
-bars_played : (before : List (Run Item)) (steps : List Item) → items_played (before ++ map single_run (without_single_bars steps)) ≡ items_played (before ++ map single_run steps)
-bars_played before [] = refl
-bars_played before (step ∷ steps) = one_played before step steps (is_single (mark_of step)) refl (λ front. bars_played front steps)
+bars_played : {A : Type 0} (item_of : A → Item) (before : List (Run A)) (steps : List A) → items_played (before ++ map (single_run item_of) (without_single_bars item_of steps)) ≡ items_played (before ++ map (single_run item_of) steps)
+bars_played item_of before [] = refl
+bars_played item_of before (step ∷ steps) = one_played item_of before step steps (is_single (mark_of (item_of step))) refl (λ front. bars_played item_of front steps)
 
 -- only after an ending's bar something waits
-abbrev MayWait : EndingRegion → List Item → Type 0
+abbrev MayWait : {A : Type 0} → EndingRegion → List A → Type 0
 MayWait AfterBar held = ⊤
 MayWait _ held = held ≡ []
 
-none_waits : (region : EndingRegion) → MayWait region []
-none_waits AfterBar = tt
-none_waits _ = refl
+none_waits : (A : Type 0) (region : EndingRegion) → MayWait {A = A} region []
+none_waits A AfterBar = tt
+none_waits A _ = refl
 
 no_sign : (mark : Mark) → is_single mark ≡ true → is_ending mark ≡ false
 no_sign (marks.Ending numbers) h = cc
 no_sign _ h = refl
 
-abbrev order : EndingRegion → List Item → List Item → List Item
-order region held steps = with_fields_in_endings_from region held steps
+abbrev order : {A : Type 0} → (A → Item) → EndingRegion → List A → List A → List A
+order item_of region held steps = ordered_from item_of region held steps
 
 -- a single bar that waits for nothing stays where it is
-single_alone : (step : Item) → is_single (mark_of step) ≡ true → put_with_waiting [] step ≡ step ∷ []
-single_alone step h = ap (λ b. cond b (step ∷ []) ([] ++ step ∷ [])) (no_sign (mark_of step) h)
+single_alone : {A : Type 0} (item_of : A → Item) (step : A) → is_single (mark_of (item_of step)) ≡ true → with_waiting item_of [] step ≡ step ∷ []
+single_alone item_of step h = ap (λ b. cond b (step ∷ []) ([] ++ step ∷ [])) (no_sign (mark_of (item_of step)) h)
 
 single_common : (mark : Mark) → is_single mark ≡ true → region_after Common mark ≡ Common
 single_common mark h = ap (λ b. cond b Inside Common) (no_sign mark h)
@@ -80,95 +80,95 @@ second true b h = refl
 second false b h = h
 
 -- an item and those that have waited, without single bars
-set_alike : (held : List Item) (step : Item) → is_single (mark_of step) ≡ false → without_single_bars (put_with_waiting held step) ≡ put_with_waiting (without_single_bars held) step
-set_alike held step h = by_sign (is_ending (mark_of step))
+set_alike : {A : Type 0} (item_of : A → Item) (held : List A) (step : A) → is_single (mark_of (item_of step)) ≡ false → without_single_bars item_of (with_waiting item_of held step) ≡ with_waiting item_of (without_single_bars item_of held) step
+set_alike item_of held step h = by_sign (is_ending (mark_of (item_of step)))
   where
-    by_sign : (sign : Bool) → without_single_bars (cond sign (step ∷ held) (held ++ step ∷ [])) ≡ cond sign (step ∷ without_single_bars held) (without_single_bars held ++ step ∷ [])
-    by_sign true = kept step held h
-    by_sign false = filter-append matters held (step ∷ []) ∙ ap (λ l. without_single_bars held ++ l) (kept step [] h)
+    by_sign : (sign : Bool) → without_single_bars item_of (cond sign (step ∷ held) (held ++ step ∷ [])) ≡ cond sign (step ∷ without_single_bars item_of held) (without_single_bars item_of held ++ step ∷ [])
+    by_sign true = kept item_of step held h
+    by_sign false = filter-append (matters item_of) held (step ∷ []) ∙ ap (λ l. without_single_bars item_of held ++ l) (kept item_of step [] h)
 
 -- what stays after an item that matters
-goes_alike : (region : EndingRegion) (held steps : List Item) (step : Item) → is_single (mark_of step) ≡ false
-    → without_single_bars (order (region_after region (mark_of step)) [] steps) ≡ order (region_after region (mark_of step)) [] (without_single_bars steps)
-    → without_single_bars (put_with_waiting held step ++ order (region_after region (mark_of step)) [] steps)
-    ≡ put_with_waiting (without_single_bars held) step ++ order (region_after region (mark_of step)) [] (without_single_bars steps)
-goes_alike region held steps step h rest =
-    filter-append matters (put_with_waiting held step) (order (region_after region (mark_of step)) [] steps)
-    ∙ (λ i. set_alike held step h i ++ rest i)
+goes_alike : {A : Type 0} (item_of : A → Item) (region : EndingRegion) (held steps : List A) (step : A) → is_single (mark_of (item_of step)) ≡ false
+    → without_single_bars item_of (order item_of (region_after region (mark_of (item_of step))) [] steps) ≡ order item_of (region_after region (mark_of (item_of step))) [] (without_single_bars item_of steps)
+    → without_single_bars item_of (with_waiting item_of held step ++ order item_of (region_after region (mark_of (item_of step))) [] steps)
+    ≡ with_waiting item_of (without_single_bars item_of held) step ++ order item_of (region_after region (mark_of (item_of step))) [] (without_single_bars item_of steps)
+goes_alike item_of region held steps step h rest =
+    filter-append (matters item_of) (with_waiting item_of held step) (order item_of (region_after region (mark_of (item_of step))) [] steps)
+    ∙ (λ i. set_alike item_of held step h i ++ rest i)
 
 -- what is moved is the same without single bars
-abbrev MovedAlike : EndingRegion → List Item → List Item → Type 0
-MovedAlike region held steps = without_single_bars (order region held steps) ≡ order region (without_single_bars held) (without_single_bars steps)
+abbrev MovedAlike : {A : Type 0} → (A → Item) → EndingRegion → List A → List A → Type 0
+MovedAlike item_of region held steps = without_single_bars item_of (order item_of region held steps) ≡ order item_of region (without_single_bars item_of held) (without_single_bars item_of steps)
 
-after_single : (held steps : List Item) (step : Item) → is_single (mark_of step) ≡ true → MovedAlike AfterBar (held ++ step ∷ []) steps → MovedAlike AfterBar held (step ∷ steps)
-after_single held steps step h rest =
-    ap (λ b. without_single_bars (cond b (order AfterBar (held ++ step ∷ []) steps) (put_with_waiting held step ++ order (region_after AfterBar (mark_of step)) [] steps)))
-    (second (is_field step) (is_single (mark_of step)) h)
+after_single : {A : Type 0} (item_of : A → Item) (held steps : List A) (step : A) → is_single (mark_of (item_of step)) ≡ true → MovedAlike item_of AfterBar (held ++ step ∷ []) steps → MovedAlike item_of AfterBar held (step ∷ steps)
+after_single item_of held steps step h rest =
+    ap (λ b. without_single_bars item_of (cond b (order item_of AfterBar (held ++ step ∷ []) steps) (with_waiting item_of held step ++ order item_of (region_after AfterBar (mark_of (item_of step))) [] steps)))
+    (second (is_field (item_of step)) (is_single (mark_of (item_of step))) h)
     ∙ rest
-    ∙ ap (λ l. order AfterBar l (without_single_bars steps))
-    (filter-append matters held (step ∷ []) ∙ ap (λ l. without_single_bars held ++ l) (left_out step [] h) ∙ append-nil (without_single_bars held))
-    ∙ ap (order AfterBar (without_single_bars held)) (sym (left_out step steps h))
+    ∙ ap (λ l. order item_of AfterBar l (without_single_bars item_of steps))
+    (filter-append (matters item_of) held (step ∷ []) ∙ ap (λ l. without_single_bars item_of held ++ l) (left_out item_of step [] h) ∙ append-nil (without_single_bars item_of held))
+    ∙ ap (order item_of AfterBar (without_single_bars item_of held)) (sym (left_out item_of step steps h))
 
-after_other : (held steps : List Item) (step : Item) → is_single (mark_of step) ≡ false → MovedAlike AfterBar (held ++ step ∷ []) steps
-    → MovedAlike (region_after AfterBar (mark_of step)) [] steps → MovedAlike AfterBar held (step ∷ steps)
-after_other held steps step h waiting going =
-    elim (waits AfterBar step) as (λ b. without_single_bars (cond b (order AfterBar (held ++ step ∷ []) steps) (put_with_waiting held step ++ order (region_after AfterBar (mark_of step)) [] steps))
-    ≡ cond b (order AfterBar (without_single_bars held ++ step ∷ []) (without_single_bars steps))
-    (put_with_waiting (without_single_bars held) step ++ order (region_after AfterBar (mark_of step)) [] (without_single_bars steps))) [
+after_other : {A : Type 0} (item_of : A → Item) (held steps : List A) (step : A) → is_single (mark_of (item_of step)) ≡ false → MovedAlike item_of AfterBar (held ++ step ∷ []) steps
+    → MovedAlike item_of (region_after AfterBar (mark_of (item_of step))) [] steps → MovedAlike item_of AfterBar held (step ∷ steps)
+after_other item_of held steps step h waiting going =
+    elim (waits AfterBar (item_of step)) as (λ b. without_single_bars item_of (cond b (order item_of AfterBar (held ++ step ∷ []) steps) (with_waiting item_of held step ++ order item_of (region_after AfterBar (mark_of (item_of step))) [] steps))
+    ≡ cond b (order item_of AfterBar (without_single_bars item_of held ++ step ∷ []) (without_single_bars item_of steps))
+    (with_waiting item_of (without_single_bars item_of held) step ++ order item_of (region_after AfterBar (mark_of (item_of step))) [] (without_single_bars item_of steps))) [
       | true ↦
           waiting
-          ∙ ap (λ l. order AfterBar l (without_single_bars steps)) (filter-append matters held (step ∷ []) ∙ ap (λ l. without_single_bars held ++ l) (kept step [] h))
-      | false ↦ goes_alike AfterBar held steps step h going
+          ∙ ap (λ l. order item_of AfterBar l (without_single_bars item_of steps)) (filter-append (matters item_of) held (step ∷ []) ∙ ap (λ l. without_single_bars item_of held ++ l) (kept item_of step [] h))
+      | false ↦ goes_alike item_of AfterBar held steps step h going
     ]
-    ∙ ap (order AfterBar (without_single_bars held)) (sym (kept step steps h))
+    ∙ ap (order item_of AfterBar (without_single_bars item_of held)) (sym (kept item_of step steps h))
 
 -- if nothing waits
-alone : (region : EndingRegion) (steps : List Item) (step : Item) → is_single (mark_of step) ≡ true → region_after region (mark_of step) ≡ region → MovedAlike region [] steps
-    → without_single_bars (put_with_waiting [] step ++ order (region_after region (mark_of step)) [] steps) ≡ order region [] (without_single_bars (step ∷ steps))
-alone region steps step h same rest =
-    (λ i. without_single_bars (single_alone step h i ++ order (same i) [] steps))
-    ∙ left_out step (order region [] steps) h ∙ rest ∙ ap (order region []) (sym (left_out step steps h))
+alone : {A : Type 0} (item_of : A → Item) (region : EndingRegion) (steps : List A) (step : A) → is_single (mark_of (item_of step)) ≡ true → region_after region (mark_of (item_of step)) ≡ region → MovedAlike item_of region [] steps
+    → without_single_bars item_of (with_waiting item_of [] step ++ order item_of (region_after region (mark_of (item_of step))) [] steps) ≡ order item_of region [] (without_single_bars item_of (step ∷ steps))
+alone item_of region steps step h same rest =
+    (λ i. without_single_bars item_of (single_alone item_of step h i ++ order item_of (same i) [] steps))
+    ∙ left_out item_of step (order item_of region [] steps) h ∙ rest ∙ ap (order item_of region []) (sym (left_out item_of step steps h))
 
-common_other : (steps : List Item) (step : Item) → is_single (mark_of step) ≡ false → MovedAlike (region_after Common (mark_of step)) [] steps → MovedAlike Common [] (step ∷ steps)
-common_other steps step h going = goes_alike Common [] steps step h going ∙ ap (order Common []) (sym (kept step steps h))
+common_other : {A : Type 0} (item_of : A → Item) (steps : List A) (step : A) → is_single (mark_of (item_of step)) ≡ false → MovedAlike item_of (region_after Common (mark_of (item_of step))) [] steps → MovedAlike item_of Common [] (step ∷ steps)
+common_other item_of steps step h going = goes_alike item_of Common [] steps step h going ∙ ap (order item_of Common []) (sym (kept item_of step steps h))
 
-inside_other : (steps : List Item) (step : Item) → is_single (mark_of step) ≡ false → MovedAlike (region_after Inside (mark_of step)) [] steps → MovedAlike Inside [] (step ∷ steps)
-inside_other steps step h going = goes_alike Inside [] steps step h going ∙ ap (order Inside []) (sym (kept step steps h))
+inside_other : {A : Type 0} (item_of : A → Item) (steps : List A) (step : A) → is_single (mark_of (item_of step)) ≡ false → MovedAlike item_of (region_after Inside (mark_of (item_of step))) [] steps → MovedAlike item_of Inside [] (step ∷ steps)
+inside_other item_of steps step h going = goes_alike item_of Inside [] steps step h going ∙ ap (order item_of Inside []) (sym (kept item_of step steps h))
 
 -- one step more
-moved_more : (region : EndingRegion) (held steps : List Item) (step : Item) (single : Bool) → is_single (mark_of step) ≡ single → MayWait region held
-    → ((next : EndingRegion) (waiting : List Item) → MayWait next waiting → MovedAlike next waiting steps) → MovedAlike region held (step ∷ steps)
-moved_more AfterBar held steps step true h may rest = after_single held steps step h (rest AfterBar (held ++ step ∷ []) tt)
-moved_more AfterBar held steps step false h may rest =
-    after_other held steps step h (rest AfterBar (held ++ step ∷ []) tt) (rest (region_after AfterBar (mark_of step)) [] (none_waits (region_after AfterBar (mark_of step))))
-moved_more Common held steps step true h may rest =
-    subst (λ l. MovedAlike Common l (step ∷ steps)) (sym may) (alone Common steps step h (single_common (mark_of step) h) (rest Common [] refl))
-moved_more Common held steps step false h may rest =
-    subst (λ l. MovedAlike Common l (step ∷ steps)) (sym may)
-    (common_other steps step h (rest (region_after Common (mark_of step)) [] (none_waits (region_after Common (mark_of step)))))
-moved_more Inside held steps step true h may rest =
-    subst (λ l. MovedAlike Inside l (step ∷ steps)) (sym may) (alone Inside steps step h (single_inside (mark_of step) h) (rest Inside [] refl))
-moved_more Inside held steps step false h may rest =
-    subst (λ l. MovedAlike Inside l (step ∷ steps)) (sym may)
-    (inside_other steps step h (rest (region_after Inside (mark_of step)) [] (none_waits (region_after Inside (mark_of step)))))
+moved_more : {A : Type 0} (item_of : A → Item) (region : EndingRegion) (held steps : List A) (step : A) (single : Bool) → is_single (mark_of (item_of step)) ≡ single → MayWait region held
+    → ((next : EndingRegion) (waiting : List A) → MayWait next waiting → MovedAlike item_of next waiting steps) → MovedAlike item_of region held (step ∷ steps)
+moved_more item_of AfterBar held steps step true h may rest = after_single item_of held steps step h (rest AfterBar (held ++ step ∷ []) tt)
+moved_more item_of AfterBar held steps step false h may rest =
+    after_other item_of held steps step h (rest AfterBar (held ++ step ∷ []) tt) (rest (region_after AfterBar (mark_of (item_of step))) [] (none_waits _ (region_after AfterBar (mark_of (item_of step)))))
+moved_more item_of Common held steps step true h may rest =
+    subst (λ l. MovedAlike item_of Common l (step ∷ steps)) (sym may) (alone item_of Common steps step h (single_common (mark_of (item_of step)) h) (rest Common [] refl))
+moved_more item_of Common held steps step false h may rest =
+    subst (λ l. MovedAlike item_of Common l (step ∷ steps)) (sym may)
+    (common_other item_of steps step h (rest (region_after Common (mark_of (item_of step))) [] (none_waits _ (region_after Common (mark_of (item_of step))))))
+moved_more item_of Inside held steps step true h may rest =
+    subst (λ l. MovedAlike item_of Inside l (step ∷ steps)) (sym may) (alone item_of Inside steps step h (single_inside (mark_of (item_of step)) h) (rest Inside [] refl))
+moved_more item_of Inside held steps step false h may rest =
+    subst (λ l. MovedAlike item_of Inside l (step ∷ steps)) (sym may)
+    (inside_other item_of steps step h (rest (region_after Inside (mark_of (item_of step))) [] (none_waits _ (region_after Inside (mark_of (item_of step))))))
 
-moved_alike : (region : EndingRegion) (held steps : List Item) → MayWait region held → MovedAlike region held steps
-moved_alike region held [] may = refl
-moved_alike region held (step ∷ steps) may =
-    moved_more region held steps step (is_single (mark_of step)) refl may (λ next waiting. moved_alike next waiting steps)
+moved_alike : {A : Type 0} (item_of : A → Item) (region : EndingRegion) (held steps : List A) → MayWait region held → MovedAlike item_of region held steps
+moved_alike item_of region held [] may = refl
+moved_alike item_of region held (step ∷ steps) may =
+    moved_more item_of region held steps step (is_single (mark_of (item_of step))) refl may (λ next waiting. moved_alike item_of next waiting steps)
 
 -- what is played of a part without them
-pub played_without_bars : (part : List Item) → played_items (without_single_bars part) ≡ played_items part
-played_without_bars part =
-    sym (one_by_one (with_fields_in_endings (without_single_bars part)))
-    ∙ ap (λ steps. items_played (map single_run steps)) (sym (moved_alike Common [] part refl))
-    ∙ bars_played [] (with_fields_in_endings part)
-    ∙ one_by_one (with_fields_in_endings part)
+pub played_without_bars : {A : Type 0} (item_of : A → Item) (part : List A) → played item_of (without_single_bars item_of part) ≡ played item_of part
+played_without_bars item_of part =
+    sym (one_by_one item_of (ordered item_of (without_single_bars item_of part)))
+    ∙ ap (λ steps. items_played (map (single_run item_of) steps)) (sym (moved_alike item_of Common [] part refl))
+    ∙ bars_played item_of [] (ordered item_of part)
+    ∙ one_by_one item_of (ordered item_of part)
 
 -- how many places that has
-pub size_without_bars : (part : List Item)
-    → length (places_of (with_fields_in_endings (without_single_bars part))) ≡ length (places_of (with_fields_in_endings part))
-size_without_bars part =
-    sym (as_many (with_fields_in_endings (without_single_bars part)))
-    ∙ ap length (played_without_bars part)
-    ∙ as_many (with_fields_in_endings part)
+pub size_without_bars : {A : Type 0} (item_of : A → Item) (part : List A)
+    → length (places item_of (ordered item_of (without_single_bars item_of part))) ≡ length (places item_of (ordered item_of part))
+size_without_bars item_of part =
+    sym (as_many item_of (ordered item_of (without_single_bars item_of part)))
+    ∙ ap length (played_without_bars item_of part)
+    ∙ as_many item_of (ordered item_of part)

@@ -4,24 +4,24 @@ use Rattle.std.proofs.lemmas.Bool.{and_parts, not-true}
 use Rattle.abc_bars_items.specs.declared.item.Item.{Item}
 use Rattle.abc_repeat.specs.Mark.{is_ending}
 use Rattle.abc_voices_sections.specs.declared.ending_fields.EndingRegion.{EndingRegion}
-use Rattle.abc_voices_sections.specs.EndingFields.{waits, region_after, nothing_waits, put_with_waiting, with_fields_in_endings_from}
+use Rattle.abc_voices_sections.specs.EndingFields.{waits, region_after, nothing_waits, with_waiting, ordered_from}
 use Rattle.abc_voices_sections.specs.Step.{mark_of}
 
--- an item that does not wait, after none that waits, is unchanged
-single_run : (step : Item) → put_with_waiting [] step ≡ step ∷ []
-single_run step = elim (is_ending (mark_of step)) as (λ b. cond b (step ∷ []) (step ∷ []) ≡ step ∷ []) [
+-- a step that does not wait, after none that waits, is unchanged
+single_run : {A : Type 0} (item_of : A → Item) (step : A) → with_waiting item_of [] step ≡ step ∷ []
+single_run item_of step = elim (is_ending (mark_of (item_of step))) as (λ b. cond b (step ∷ []) (step ∷ []) ≡ step ∷ []) [
   | true ↦ refl
   | false ↦ refl
 ]
 
-pub nothing_moves : (region : EndingRegion) (steps : List Item)
-    → nothing_waits region steps ≡ true → with_fields_in_endings_from region [] steps ≡ steps
-nothing_moves region [] h = refl
-nothing_moves region (step ∷ steps) h =
-    let following = region_after region (mark_of step) in
-    let both = and_parts (not (waits region step)) (nothing_waits following steps) h in
-    let stays : waits region step ≡ false = not-true (waits region step) both.0 in
-    ap (λ b. cond b (with_fields_in_endings_from region (step ∷ []) steps) (put_with_waiting [] step ++ with_fields_in_endings_from following [] steps)) stays
-    ∙ (λ i. single_run step i ++ nothing_moves following steps both.1 i)
+pub nothing_moves : {A : Type 0} (item_of : A → Item) (region : EndingRegion) (steps : List A)
+    → nothing_waits item_of region steps ≡ true → ordered_from item_of region [] steps ≡ steps
+nothing_moves item_of region [] h = refl
+nothing_moves item_of region (step ∷ steps) h =
+    let following = region_after region (mark_of (item_of step)) in
+    let both = and_parts (not (waits region (item_of step))) (nothing_waits item_of following steps) h in
+    let stays : waits region (item_of step) ≡ false = not-true (waits region (item_of step)) both.0 in
+    ap (λ b. cond b (ordered_from item_of region (step ∷ []) steps) (with_waiting item_of [] step ++ ordered_from item_of following [] steps)) stays
+    ∙ (λ i. single_run item_of step i ++ nothing_moves item_of following steps both.1 i)
 
 -- if nothing waits, the steps are those that repeats and endings play

@@ -27,33 +27,33 @@ past_turn region item h = ap (region_after region) (takes_turn (mark_of item) h)
     by_region Common = refl
 
 -- what takes its turn there waits for nothing, and changes nothing
-one_goes : (region : EndingRegion) (item : Item) (rest : List Item) → is_play (mark_of item) ≡ true
-    → nothing_waits (after_turn region) (item ∷ rest) ≡ nothing_waits (after_turn region) rest
-one_goes AfterBar item rest h = ap (λ next. nothing_waits next rest) (past_turn Common item h)
-one_goes Inside item rest h = ap (λ next. nothing_waits next rest) (past_turn Inside item h)
-one_goes Common item rest h = ap (λ next. nothing_waits next rest) (past_turn Common item h)
+one_goes : {A : Type 0} (item_of : A → Item) (region : EndingRegion) (step : A) (rest : List A) → is_play (mark_of (item_of step)) ≡ true
+    → nothing_waits item_of (after_turn region) (step ∷ rest) ≡ nothing_waits item_of (after_turn region) rest
+one_goes item_of AfterBar step rest h = ap (λ next. nothing_waits item_of next rest) (past_turn Common (item_of step) h)
+one_goes item_of Inside step rest h = ap (λ next. nothing_waits item_of next rest) (past_turn Inside (item_of step) h)
+one_goes item_of Common step rest h = ap (λ next. nothing_waits item_of next rest) (past_turn Common (item_of step) h)
 
-pub rest_goes : (region : EndingRegion) (items rest : List Item) → AreAllPlayed items
-    → nothing_waits (after_turn region) (items ++ rest) ≡ nothing_waits (after_turn region) rest
-rest_goes region [] rest h = refl
-rest_goes region (item ∷ items) rest h =
-    one_goes region item (items ++ rest) (All-head (λ one. is_play (mark_of one) ≡ true) item items h)
-    ∙ rest_goes region items rest (All-tail (λ one. is_play (mark_of one) ≡ true) item items h)
+pub rest_goes : {A : Type 0} (item_of : A → Item) (region : EndingRegion) (steps rest : List A) → AreAllPlayed item_of steps
+    → nothing_waits item_of (after_turn region) (steps ++ rest) ≡ nothing_waits item_of (after_turn region) rest
+rest_goes item_of region [] rest h = refl
+rest_goes item_of region (step ∷ steps) rest h =
+    one_goes item_of region step (steps ++ rest) (All-head (λ one. is_play (mark_of (item_of one)) ≡ true) step steps h)
+    ∙ rest_goes item_of region steps rest (All-tail (λ one. is_play (mark_of (item_of one)) ≡ true) step steps h)
 
 turn_past : (region : EndingRegion) → after_turn region ≡ region_after region marks.Play
 turn_past AfterBar = refl
 turn_past Inside = refl
 turn_past Common = refl
 
--- whether something waits from a run on: its first item decides, and its mark decides for the rest
-pub run_goes : (region : EndingRegion) (run : Run Item) (first : Item) (rest : List Item) → IsRun run → first ≡ get_or run.items 0 first
-    → nothing_waits region (run.items ++ rest) ≡ (not (waits region first) && nothing_waits (region_after region run.mark) rest)
-run_goes region _ first rest (together item items turns) is =
-    let here = All-head (λ one. is_play (mark_of one) ≡ true) item items turns in
-    let others = All-tail (λ one. is_play (mark_of one) ≡ true) item items turns in
-    ap (λ next. not (waits region item) && nothing_waits next (items ++ rest)) (past_turn region item here)
-    ∙ ap (λ b. not (waits region item) && b) (rest_goes region items rest others)
-    ∙ ap (λ next. not (waits region item) && nothing_waits next rest) (turn_past region)
-    ∙ ap (λ one. not (waits region one) && nothing_waits (region_after region marks.Play) rest) (sym is)
-run_goes region _ first rest (single item) is =
-    ap (λ one. not (waits region one) && nothing_waits (region_after region (mark_of item)) rest) (sym is)
+-- whether something waits from a run on: its first step decides, and its mark decides for the rest
+pub run_goes : {A : Type 0} (item_of : A → Item) (region : EndingRegion) (run : Run A) (first : A) (rest : List A) → IsRun item_of run → first ≡ get_or run.items 0 first
+    → nothing_waits item_of region (run.items ++ rest) ≡ (not (waits region (item_of first)) && nothing_waits item_of (region_after region run.mark) rest)
+run_goes item_of region _ first rest (together step steps turns) is =
+    let here = All-head (λ one. is_play (mark_of (item_of one)) ≡ true) step steps turns in
+    let others = All-tail (λ one. is_play (mark_of (item_of one)) ≡ true) step steps turns in
+    ap (λ next. not (waits region (item_of step)) && nothing_waits item_of next (steps ++ rest)) (past_turn region (item_of step) here)
+    ∙ ap (λ b. not (waits region (item_of step)) && b) (rest_goes item_of region steps rest others)
+    ∙ ap (λ next. not (waits region (item_of step)) && nothing_waits item_of next rest) (turn_past region)
+    ∙ ap (λ one. not (waits region (item_of one)) && nothing_waits item_of (region_after region marks.Play) rest) (sym is)
+run_goes item_of region _ first rest (single step) is =
+    ap (λ one. not (waits region (item_of one)) && nothing_waits item_of (region_after region (mark_of (item_of step))) rest) (sym is)

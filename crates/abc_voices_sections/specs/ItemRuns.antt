@@ -5,35 +5,34 @@ use Rattle.abc_bars_items.specs.declared.item.Item.{Item}
 use Rattle.abc_repeat.specs.Mark.{is_play}
 use Rattle.abc_repeat.specs.Runs.{Run, played_run}
 use Rattle.abc_voices_sections.specs.declared.item_runs.ItemRun.{ItemRun}
-use Rattle.abc_voices_sections.specs.Items.{items_of}
 use Rattle.abc_voices_sections.specs.Step.{mark_of}
 
--- An item run as the play sees it: its mark, and its items.
-abbrev pub run_of : ItemRun → Run Item
-run_of item_run = record { mark = item_run.mark; items = items_of item_run.items.now }
+-- An item run as the play sees it: its mark, and its steps.
+abbrev pub run_of : {A : Type 0} → ItemRun A → Run A
+run_of item_run = record { mark = item_run.mark; items = item_run.items.now }
 
 -- Item runs as the play sees them.
-abbrev pub runs_of : List ItemRun → List (Run Item)
+abbrev pub runs_of : {A : Type 0} → List (ItemRun A) → List (Run A)
 runs_of item_runs = map run_of item_runs
 
--- The items of runs, one run after another.
-abbrev pub items_in : List (Run Item) → List Item
+-- The steps of runs, one run after another.
+abbrev pub items_in : {A : Type 0} → List (Run A) → List A
 items_in runs = flat_map (λ run. run.items) runs
 
--- An item by itself.
-abbrev pub single_run : Item → Run Item
-single_run item = record { mark = mark_of item; items = item ∷ [] }
+-- A step by itself.
+abbrev pub single_run : {A : Type 0} → (A → Item) → A → Run A
+single_run item_of step = record { mark = mark_of (item_of step); items = step ∷ [] }
 
--- Items that are all played.
-abbrev pub AreAllPlayed : List Item → Type 0
-AreAllPlayed items = AllPass (λ item. is_play (mark_of item)) items
+-- Steps that are all played.
+abbrev pub AreAllPlayed : {A : Type 0} → (A → Item) → List A → Type 0
+AreAllPlayed item_of steps = AllPass (λ step. is_play (mark_of (item_of step))) steps
 
--- A run of a part: items that are all played, or an item by itself.
-pub data IsRun : Run Item → Type 0 where
-  together : (item : Item) (items : List Item) → AreAllPlayed (item ∷ items) → IsRun (played_run (item ∷ items))
-  single : (item : Item) → IsRun (single_run item)
+-- A run of a part: steps that are all played, or a step by itself.
+pub data IsRun {A : Type 0} (item_of : A → Item) : Run A → Type 0 where
+  together : (step : A) (steps : List A) → AreAllPlayed item_of (step ∷ steps) → IsRun item_of (played_run (step ∷ steps))
+  single : (step : A) → IsRun item_of (single_run item_of step)
 
--- The runs of a part, which have each of its items.
-pub record AreRuns (part : List Item) (runs : List (Run Item)) : Type 0 where
+-- The runs of a part, which have each of its steps.
+pub record AreRuns {A : Type 0} (item_of : A → Item) (part : List A) (runs : List (Run A)) : Type 0 where
   pub whole : items_in runs ≡ part
-  pub each : All IsRun runs
+  pub each : All (IsRun item_of) runs

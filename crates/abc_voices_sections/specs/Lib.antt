@@ -1,3 +1,4 @@
+pub mod AsItems
 pub mod EndingFields
 pub mod ItemRuns
 pub mod Items
@@ -7,3 +8,5 @@ pub mod PlayedSection
 pub mod Section
 pub mod Stage
 pub mod Step
+pub mod Table
+pub mod Turns

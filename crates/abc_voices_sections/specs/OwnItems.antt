@@ -10,8 +10,8 @@ is_own_after voice own (items.Voice false name) = bytes_eq name voice
 is_own_after voice own _ = own
 
 -- The steps of a voice from a place on, by whether it is the current voice there.
-abbrev pub own_from : List ℕ → Bool → List Item → List Item
-own_from voice own [] = []
-own_from voice own (step ∷ steps) =
-    if own && is_step step then step ∷ own_from voice (is_own_after voice own step) steps
-    else own_from voice (is_own_after voice own step) steps
+abbrev pub own_from : {A : Type 0} → (A → Item) → List ℕ → Bool → List A → List A
+own_from item_of voice own [] = []
+own_from item_of voice own (step ∷ steps) =
+    if own && is_step (item_of step) then step ∷ own_from item_of voice (is_own_after voice own (item_of step)) steps
+    else own_from item_of voice (is_own_after voice own (item_of step)) steps

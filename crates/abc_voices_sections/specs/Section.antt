@@ -3,6 +3,7 @@ use Rattle.std.specs.Prelude.{ℕ, Bool, true, false, not, ◌&&◌, if◌then�
 use Rattle.std.specs.Prelude.{filter_map}
 use Rattle.abc_bars_items.specs.declared.item.Item.{Item}
 use Rattle.abc_bars_items.specs.declared.item.Item.TheVariants as items
+use Rattle.abc_voices_sections.specs.Step.{itself}
 
 -- What is played of a voice, and the marks that say how; what holds when the tune begins is not played.
 abbrev pub is_step : Item → Bool
@@ -45,24 +46,35 @@ abbrev pub opening_voice : List Item → List ℕ
 opening_voice [] = []
 opening_voice (step ∷ tune) = declared_or (opening_voice tune) step
 
--- The sections of a tune from one on that began in the voice `opening`. `steps` has its steps so far, and `voice` is the
--- current voice. Each section has the voice in which it begins.
+-- The sections of steps from one on that began in the voice `opening`. `held` has its steps so far, and `voice` is the current
+-- voice. Each section has the voice in which it begins.
+abbrev pub cut_from : {A : Type 0} → (A → Item) → List ℕ → List A → List ℕ → List A → List (List ℕ × List A)
+cut_from item_of opening held voice [] = (opening, held) ∷ []
+cut_from item_of opening held voice (step ∷ steps) =
+    if is_section (item_of step) then (opening, held) ∷ cut_from item_of voice [] voice steps
+    else cut_from item_of opening (held ++ step ∷ []) (voice_after voice (item_of step)) steps
+
+-- The sections of steps, the opening one first, by the current voice before them.
+abbrev pub cut : {A : Type 0} → (A → Item) → List ℕ → List A → List (List ℕ × List A)
+cut item_of voice steps = cut_from item_of voice [] voice steps
+
+-- The steps of a voice from a place on, at which `current` is the current voice.
+abbrev pub own_steps : {A : Type 0} → (A → Item) → List ℕ → List ℕ → List A → List A
+own_steps item_of voice current [] = []
+own_steps item_of voice current (step ∷ steps) =
+    if is_step (item_of step) && bytes_eq current voice then step ∷ own_steps item_of voice (voice_after current (item_of step)) steps
+    else own_steps item_of voice (voice_after current (item_of step)) steps
+
+-- The same of items alone.
 abbrev pub sections_from : List ℕ → List Item → List ℕ → List Item → List (List ℕ × List Item)
-sections_from opening steps voice [] = (opening, steps) ∷ []
-sections_from opening steps voice (step ∷ tune) =
-    if is_section step then (opening, steps) ∷ sections_from voice [] voice tune
-    else sections_from opening (steps ++ step ∷ []) (voice_after voice step) tune
+sections_from opening steps voice tune = cut_from itself opening steps voice tune
+
+abbrev pub part_from : List ℕ → List ℕ → List Item → List Item
+part_from voice current steps = own_steps itself voice current steps
 
 -- The sections of a tune, the opening one first.
 abbrev pub sections : List Item → List (List ℕ × List Item)
-sections tune = sections_from (opening_voice tune) [] (opening_voice tune) tune
-
--- The steps of a voice from a place on, at which this voice is the current one.
-abbrev pub part_from : List ℕ → List ℕ → List Item → List Item
-part_from voice current [] = []
-part_from voice current (step ∷ steps) =
-    if is_step step && bytes_eq current voice then step ∷ part_from voice (voice_after current step) steps
-    else part_from voice (voice_after current step) steps
+sections tune = cut itself (opening_voice tune) tune
 
 -- The steps of a voice in a section.
 abbrev pub part : List ℕ → List ℕ × List Item → List Item

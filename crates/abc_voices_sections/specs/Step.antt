@@ -32,3 +32,11 @@ tones_of (items.Tone tones length) = Some tones
 tones_of (items.Rest length true) = None
 tones_of (items.Rest length false) = Some []
 tones_of _ = None
+
+-- A field that sets nothing. A step that no item gives is played as one.
+abbrev pub empty_field : Item
+empty_field = items.Tempo false None false
+
+-- An item is the item of itself.
+abbrev pub itself : Item → Item
+itself item = item

@@ -1,15 +1,13 @@
 //! The order in which a voice's items are played in a section.
 
 ghost use Rattle.std.specs.Prelude.{◌≡◌, ◌++◌, [], not, All, IfOk, OnOk};
-ghost use Rattle.abc_voices_sections.specs.Items.{items_of};
 ghost use Rattle.abc_voices_sections.specs.ItemRuns.{runs_of, items_in, IsRun};
 ghost use Rattle.abc_voices_sections.specs.declared.ending_fields.EndingRegion.TheVariants as regions;
 ghost use Rattle.abc_voices_sections.specs.EndingFields.{waits, after_bar, after_mark, region_after, nothing_waits};
-ghost use Rattle.abc_voices_sections.specs.EndingFields.{put_with_waiting, with_fields_in_endings};
+ghost use Rattle.abc_voices_sections.specs.EndingFields.{with_waiting, ordered};
 
 use crate::item_runs::ItemRun;
-use crate::step::{is_field, is_single_bar, mark_of};
-use abc_bars_items::Item;
+use crate::step::{AsItem, is_field_step, is_single_bar, mark_of};
 use abc_repeat::Mark;
 use std::alloc::{AllocError, Global};
 
@@ -25,12 +23,12 @@ pub enum EndingRegion {
 }
 
 impl EndingRegion {
-    /// Whether an item in this region waits for the next ending's sign.
-    fn waits(self, item: &Item) -> bool
-        ensures { result ≡ waits self item.now }
+    /// Whether a step in this region waits for the next ending's sign.
+    fn waits<T: AsItem>(self, step: &T) -> bool
+        ensures { result ≡ waits self (T.item_of step.now) }
     {
         match self {
-            EndingRegion::AfterBar => is_field(item) || is_single_bar(item),
+            EndingRegion::AfterBar => is_field_step(step) || is_single_bar(step),
             _ => false,
         }
     }
@@ -59,14 +57,14 @@ impl EndingRegion {
     }
 }
 
-/// Whether an item in the runs of a part waits for an ending's sign. Such an item is the first of its run.
-pub(crate) fn has_waiting_item(item_runs: &[ItemRun]) -> bool
-    requires { All IsRun (runs_of item_runs.now) }
-    ensures { not result ≡ nothing_waits regions.Common (items_in (runs_of item_runs.now)) }
+/// Whether a step in the runs of a part waits for an ending's sign. Such a step is the first of its run.
+pub(crate) fn has_waiting_item<T: AsItem>(item_runs: &[ItemRun<'_, T>]) -> bool
+    requires { All (IsRun T.item_of) (runs_of item_runs.now) }
+    ensures { not result ≡ nothing_waits T.item_of regions.Common (items_in (runs_of item_runs.now)) }
 {
     let mut region = EndingRegion::Common;
     for item_run in item_runs {
-        if region.waits(item_run.items[0]) {
+        if region.waits(&item_run.items[0]) {
             return true;
         }
         region = region.after_mark(item_run.mark);
@@ -74,47 +72,47 @@ pub(crate) fn has_waiting_item(item_runs: &[ItemRun]) -> bool
     false
 }
 
-/// Appends an item and those that have waited: an ending's sign before them, anything else after.
-fn put_with_waiting<'a>(
-    out: &mut Vec<&'a Item>,
-    waiting: &mut Vec<&'a Item>,
-    item: &'a Item,
+/// Appends a step and those that have waited: an ending's sign before them, anything else after.
+fn put_with_waiting<T: AsItem>(
+    out: &mut Vec<T>,
+    waiting: &mut Vec<T>,
+    step: &T,
 ) -> Result<(), AllocError>
-    ensures put { OnOk result (items_of out.new.items
-        ≡ items_of out.old.items ++ put_with_waiting (items_of waiting.old.items) item.entry.now) }
+    ensures put { OnOk result (out.new.items
+        ≡ out.old.items ++ with_waiting T.item_of waiting.old.items step.now) }
     ensures waiting { OnOk result (waiting.new.items ≡ []) }
 {
     if waiting.is_empty() {
-        out.push(item)?;
+        out.push(*step)?;
         return Ok(());
     }
-    if mark_of(item).is_ending() {
-        out.push(item)?;
+    if mark_of(step).is_ending() {
+        out.push(*step)?;
         out.extend_from_slice(waiting)?;
     } else {
         out.extend_from_slice(waiting)?;
-        out.push(item)?;
+        out.push(*step)?;
     }
     waiting.clear();
     Ok(())
 }
 
-/// Returns the items of a voice in a section, with fields after an ending's bar moved after the next ending's sign.
-pub(crate) fn with_fields_in_endings<'a>(
+/// Returns the steps of a voice in a section, with fields after an ending's bar moved after the next ending's sign.
+pub(crate) fn with_fields_in_endings<T: AsItem>(
     alloc: Global,
-    part: &[&'a Item],
-) -> Result<Vec<&'a Item>, AllocError>
-    ensures { IfOk result (λ steps. items_of steps.items ≡ with_fields_in_endings (items_of part.now)) }
+    part: &[T],
+) -> Result<Vec<T>, AllocError>
+    ensures { IfOk result (λ steps. steps.items ≡ ordered T.item_of part.now) }
 {
     let mut steps = Vec::with_capacity(alloc, part.len())?;
     let mut waiting = Vec::new(alloc);
     let mut region = EndingRegion::Common;
-    for item in part {
-        if region.waits(item) {
-            waiting.push(*item)?;
+    for step in part {
+        if region.waits(step) {
+            waiting.push(*step)?;
         } else {
-            put_with_waiting(&mut steps, &mut waiting, item)?;
-            region = region.after_mark(mark_of(item));
+            put_with_waiting(&mut steps, &mut waiting, step)?;
+            region = region.after_mark(mark_of(step));
         }
     }
     steps.extend_from_slice(&waiting)?;

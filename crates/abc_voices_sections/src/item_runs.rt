@@ -2,32 +2,31 @@
 
 ghost use Rattle.std.specs.Prelude.{◌≡◌, ◌++◌, All, IfOk, OnOk};
 ghost use Rattle.abc_repeat.specs.Runs.{marks_in};
-ghost use Rattle.abc_voices_sections.specs.Items.{items_of};
 ghost use Rattle.abc_voices_sections.specs.ItemRuns.{runs_of, items_in, AreAllPlayed, IsRun, AreRuns};
 
-use crate::step::{is_played, mark_of};
-use abc_bars_items::Item;
+use crate::step::{AsItem, is_played, mark_of};
 use abc_repeat::Mark;
 use std::alloc::{AllocError, Global};
 
-/// Played items up to the next mark, or a mark by itself.
+/// Played steps up to the next mark, or a mark by itself.
 #[derive(Clone, Copy)]
-pub(crate) struct ItemRun<'p, 't> {
-    /// `Mark::Play` for played items.
+pub(crate) struct ItemRun<'p, T> {
+    /// `Mark::Play` for played steps.
     pub mark: Mark,
-    /// Its items, at least one.
-    pub items: &'p [&'t Item],
+    /// Its steps, at least one.
+    pub items: &'p [T],
 }
 
-/// Appends played items as one run, if there are any.
-fn push_run<'p, 't>(
-    found: &mut Vec<ItemRun<'p, 't>>,
-    items: &'p [&'t Item],
+/// Appends played steps as one run, if there are any.
+fn push_run<'p, T: AsItem>(
+    found: &mut Vec<ItemRun<'p, T>>,
+    items: &'p [T],
 ) -> Result<(), AllocError>
-    requires { AreAllPlayed (items_of items.now) }
+    requires { AreAllPlayed T.item_of items.now }
     ensures whole { OnOk result (items_in (runs_of found.new.items)
-        ≡ items_in (runs_of found.old.items) ++ items_of items.entry.now) }
-    ensures each { OnOk result (All IsRun (runs_of found.old.items) → All IsRun (runs_of found.new.items)) }
+        ≡ items_in (runs_of found.old.items) ++ items.entry.now) }
+    ensures each { OnOk result (All (IsRun T.item_of) (runs_of found.old.items)
+        → All (IsRun T.item_of) (runs_of found.new.items)) }
 {
     if !items.is_empty() {
         found.push(ItemRun {
@@ -39,11 +38,11 @@ fn push_run<'p, 't>(
 }
 
 /// Returns the runs of a part.
-pub(crate) fn item_runs<'p, 't>(
+pub(crate) fn item_runs<'p, T: AsItem>(
     alloc: Global,
-    part: &'p [&'t Item],
-) -> Result<Vec<ItemRun<'p, 't>>, AllocError>
-    ensures { IfOk result (λ found. AreRuns (items_of part.entry.now) (runs_of found.items)) }
+    part: &'p [T],
+) -> Result<Vec<ItemRun<'p, T>>, AllocError>
+    ensures { IfOk result (λ found. AreRuns T.item_of part.entry.now (runs_of found.items)) }
 {
     let mut found = Vec::new(alloc);
     let mut begin = 0;
@@ -62,7 +61,10 @@ pub(crate) fn item_runs<'p, 't>(
 }
 
 /// Returns the marks of runs.
-pub(crate) fn marks_of(alloc: Global, item_runs: &[ItemRun]) -> Result<Vec<Mark>, AllocError>
+pub(crate) fn marks_of<T: AsItem>(
+    alloc: Global,
+    item_runs: &[ItemRun<'_, T>],
+) -> Result<Vec<Mark>, AllocError>
     ensures { IfOk result (λ marks. marks.items ≡ marks_in (runs_of item_runs.now)) }
 {
     let mut marks = Vec::with_capacity(alloc, item_runs.len())?;

@@ -1,43 +1,34 @@
 //! The parts of the voices of a tune in a section.
 
-ghost use Rattle.std.specs.Prelude.{◌≡◌, ◌<◌, ◌≤◌, ◌^◌, length, map, sum_by, IfOk};
+ghost use Rattle.std.specs.Prelude.{◌≡◌, ◌<◌, ◌≤◌, ◌^◌, map, option_copied, slice_get, sum_by, IfOk};
 ghost use Rattle.abc_repeat.specs.declared.play.TheConstants.{MOST_PLACES};
 ghost use Rattle.abc_time.specs.Grains.{grains_of_the_latest_end};
-ghost use Rattle.abc_voices_sections.specs.PlayedSection.{size_in, length_in, section_length};
-ghost use Rattle.abc_voices_sections.specs.Stage.{content, part_of, stage_of, part_size, stage_size};
+ghost use Rattle.abc_voices_sections.specs.PlayedSection.{count_in, time_in, section_time};
+ghost use Rattle.abc_voices_sections.specs.Stage.{steps_at, part_in, stage_in, part_size, stage_size};
 
-use crate::play::{duration, played_items};
-use crate::section::{Section, part};
-use abc_bars_items::Item;
+use crate::play::{duration, played_steps};
+use crate::section::Section;
+use crate::step::AsItem;
 use abc_repeat::RepeatFault;
 use abc_text::Sequence;
 use abc_time::Grains;
 use std::alloc::{AllocError, Global};
-use std::marker::Model;
 use thiserror::Error;
 
-/// The items that a voice plays of a section. Contracts see the items.
+/// The steps that a voice plays of a section.
 #[derive(Drop)]
-pub struct VoicePart<'t> {
-    /// The played items, in order of play.
-    pub steps: Sequence<&'t Item>,
+pub struct VoicePart<T> {
+    /// The steps, in order of play.
+    pub steps: Sequence<T>,
     /// Their time.
     pub length: Grains,
 }
 
-impl<'t> Model for VoicePart<'t> {
-    ghost use Rattle.abc_voices_sections.specs.Items.{VoicePartView, items_of};
-
-    ghost Value = { VoicePartView };
-
-    ghost view = { λ part. record { steps = items_of part.steps; length = part.length } };
-}
-
 /// The parts of all voices of a tune in a section.
 #[derive(Drop)]
-pub struct Stage<'t> {
+pub struct Stage<T> {
     /// The part of each voice, in the order of the voices.
-    pub parts: Sequence<VoicePart<'t>>,
+    pub parts: Sequence<VoicePart<T>>,
     /// The length of the section: that of the longest part.
     pub longest: Grains,
 }
@@ -45,7 +36,7 @@ pub struct Stage<'t> {
 /// The reason why a tune has no stages.
 #[derive(Clone, Copy, Debug, PartialEq, Eq, Error)]
 pub enum StageError {
-    /// More places are played than there is room for.
+    /// More steps are played than there is room for.
     #[error("more than 1,000,000 notes, chords, rests, fields and programs would be played")]
     TooMany,
     /// A section is longer than a tune may be.
@@ -79,28 +70,24 @@ impl From<RepeatFault> for StageError {
     }
 }
 
-impl<'t> VoicePart<'t> {
-    /// Returns the part of a voice in a section, if it has at most `room` places.
-    #[tactic(auto, using(crate::proofs::Singles::played_without_bars, crate::proofs::Singles::size_without_bars))]
+impl<T: AsItem> VoicePart<T> {
+    /// Returns the part of a voice in a section, if it has at most `room` steps.
     pub fn of(
         alloc: Global,
-        section: &Section<'_, 't>,
+        section: &Section<'_, T>,
         voice: &[u8],
         room: u64,
-    ) -> Result<VoicePart<'t>, StageError>
+    ) -> Result<VoicePart<T>, StageError>
         requires { room ≤ MOST_PLACES }
-        ensures value { IfOk result (λ own. own ≡ part_of (content section.now) voice.now) }
-        ensures size { IfOk result (λ own. part_size own
-            ≡ size_in (content section.now) voice.now) }
+        ensures value { IfOk result (λ own. own ≡ part_in T.item_of (steps_at section.now) voice.now) }
         ensures within { IfOk result (λ own. part_size own ≤ room) }
         ensures in_time { IfOk result (λ own. own.length.0 ≤ grains_of_the_latest_end) }
         ensures too_many { result ≡ Err StageError.TooMany
-            → room < size_in (content section.now) voice.now }
+            → room < count_in T.item_of (steps_at section.now) voice.now }
         ensures too_late { result ≡ Err StageError.TooLate
-            → grains_of_the_latest_end < length_in (content section.now) voice.now }
+            → grains_of_the_latest_end < time_in T.item_of (steps_at section.now) voice.now }
     {
-        let items = part(alloc, voice, section.voice, section.items)?;
-        let steps = played_items(alloc, items, room)?;
+        let steps = played_steps(alloc, section, voice, room)?;
         match duration(&steps) {
             Some(length) => Ok(VoicePart {
                 steps: Sequence::from(steps),
@@ -110,7 +97,7 @@ impl<'t> VoicePart<'t> {
         }
     }
 
-    /// Returns the number of places that are played.
+    /// Returns the number of steps that are played.
     pub fn size(&self) -> u64
         ensures { result ≡ part_size self.now }
     {
@@ -118,25 +105,26 @@ impl<'t> VoicePart<'t> {
     }
 }
 
-impl<'t> Stage<'t> {
-    /// Returns the parts of the voices in a section, if they have at most `room` places.
+impl<T: AsItem> Stage<T> {
+    /// Returns the parts of the voices in a section, if they have at most `room` steps.
     pub fn of(
         alloc: Global,
-        section: &Section<'_, 't>,
+        section: &Section<'_, T>,
         voices: &[&[u8]],
         room: u64,
-    ) -> Result<Stage<'t>, StageError>
+    ) -> Result<Stage<T>, StageError>
         requires { room ≤ MOST_PLACES }
         ensures value { IfOk result (λ stage. stage
-            ≡ stage_of (map (λ voice. voice.now) voices.now) (content section.now)) }
+            ≡ stage_in T.item_of (map (λ voice. voice.now) voices.now) (steps_at section.now)) }
         ensures size { IfOk result (λ stage. stage_size stage
-            ≡ sum_by (size_in (content section.now)) (map (λ voice. voice.now) voices.now)) }
+            ≡ sum_by (count_in T.item_of (steps_at section.now)) (map (λ voice. voice.now) voices.now)) }
         ensures within { IfOk result (λ stage. stage_size stage ≤ room) }
         ensures in_time { IfOk result (λ stage. stage.longest.0 ≤ grains_of_the_latest_end) }
         ensures too_many { result ≡ Err StageError.TooMany
-            → room < sum_by (size_in (content section.now)) (map (λ voice. voice.now) voices.now) }
+            → room < sum_by (count_in T.item_of (steps_at section.now)) (map (λ voice. voice.now) voices.now) }
         ensures too_late { result ≡ Err StageError.TooLate
-            → grains_of_the_latest_end < section_length (map (λ voice. voice.now) voices.now) (content section.now) }
+            → grains_of_the_latest_end
+            < section_time T.item_of (map (λ voice. voice.now) voices.now) (steps_at section.now) }
     {
         let mut parts = Sequence::new(alloc);
         let mut left = room;
@@ -150,7 +138,14 @@ impl<'t> Stage<'t> {
         Ok(Stage { parts, longest })
     }
 
-    /// Returns the number of places that the voices play together.
+    /// Returns the part of the voice at an index, if there is one.
+    pub fn part(&self, voice: usize) -> Option<&VoicePart<T>>
+        ensures { option_copied result ≡ slice_get self.now.parts voice }
+    {
+        self.parts.as_slice().get(voice)
+    }
+
+    /// Returns the number of steps that the voices play together.
     pub fn size(&self) -> u64
         requires { stage_size self.now < 2 ^ 64 }
         ensures { result ≡ stage_size self.now }

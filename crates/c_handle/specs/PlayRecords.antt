@@ -9,7 +9,7 @@ use Rattle.abc_play.specs.declared.entry.PlayedEntry.{PlayedEntry}
 use Rattle.abc_play.specs.declared.play_error.PlayError.{PlayError}
 use Rattle.abc_play.specs.declared.play_error.PlayError.TheVariants.{NoSuchNumber, TooLong, OutOfMemory}
 use Rattle.c_handle.specs.Copies.{CopyResult, lookup_answer, slot_answer}
-use Rattle.c_handle.specs.TokenRecords.{CopiesOrFails}
+use Rattle.c_handle.specs.TokenRecords.{CopiesFound}
 use Rattle.c_handle.specs.declared.codes.TheConstants.{CODE_NOT_FOUND, CODE_OUT_OF_MEMORY, CODE_TOO_LONG}
 use Rattle.c_handle.specs.declared.open_session.OpenSession.{OpenSession}
 use Rattle.c_handle.specs.declared.play_record.PlayRecord.{PlayRecord}
@@ -75,7 +75,8 @@ play_answer part text number buffer =
     if nat_lt MOST_PLACES (play_size text number) then (CODE_TOO_LONG, 0, buffer)
     else lookup_answer (option_map part (play_of text number)) buffer
 
--- The same from a slot, or an allocation failed. A slot without a session is misused.
+-- The same from a slot, or a tune owns the number and an allocation failed. A slot without a session is misused.
 abbrev pub CopiesPlay : {A : Type 0} → (Tracks → List A) → ℕ → Option OpenSession → List A → CopyResult A → Type 0
 CopiesPlay part number None buffer answer = answer ≡ slot_answer None buffer
-CopiesPlay part number (Some held) buffer answer = CopiesOrFails (play_answer part held.session.text number buffer) buffer answer
+CopiesPlay part number (Some held) buffer answer =
+    CopiesFound (play_of held.session.text number) (play_answer part held.session.text number buffer) buffer answer

@@ -48,14 +48,21 @@ token_record token = record { from = token.from; to = token.to; kind = kind_numb
 abbrev pub tokens_in : ℕ → OpenSession → Option (List TokenRecord)
 tokens_in number held = option_map (map token_record) (tokens_at rules_of_abc held.session.text number)
 
--- Tokens are copied as other items are, or an allocation failed and nothing is.
+-- Items are copied as this says, or an allocation failed and none is.
 abbrev pub CopiesOrFails : {A : Type 0} → CopyResult A → List A → CopyResult A → Type 0
 CopiesOrFails wanted buffer answer = (answer ≡ wanted) ⊎ (answer ≡ (CODE_OUT_OF_MEMORY, 0, buffer))
 
--- The tokens of the line of a number are copied from a slot, or an allocation failed. A slot without a session is misused.
+-- The same of items that may be missing. If they are, that is the answer, whatever else fails.
+abbrev pub CopiesFound : {A B : Type 0} → Option B → CopyResult A → List A → CopyResult A → Type 0
+CopiesFound None wanted buffer answer = answer ≡ wanted
+CopiesFound (Some found) wanted buffer answer = CopiesOrFails wanted buffer answer
+
+-- The tokens of the line of a number are copied from a slot, or the line is there and an allocation failed. A slot without a
+-- session is misused.
 abbrev pub CopiesTokens : ℕ → Option OpenSession → List TokenRecord → CopyResult TokenRecord → Type 0
 CopiesTokens number None buffer answer = answer ≡ slot_answer None buffer
-CopiesTokens number (Some held) buffer answer = CopiesOrFails (slot_answer (Some (tokens_in number held)) buffer) buffer answer
+CopiesTokens number (Some held) buffer answer =
+    CopiesFound (tokens_in number held) (slot_answer (Some (tokens_in number held)) buffer) buffer answer
 
 -- The counters after the tokens of the line of a number were asked for.
 abbrev pub work_in : ℕ → Option OpenSession → Counters → Counters

@@ -6,8 +6,8 @@ ghost use Rattle.c_handle.specs.Copies.{copy_answer, lookup_answer};
 use crate::codes::{CODE_MISUSED, CODE_NOT_FOUND, CODE_OK, CODE_SHORT_BUFFER};
 
 /// The answer of a call that copies items: a code, and the number of items, which is 0 if there are none. The code is
-/// `CODE_OK`, `CODE_SHORT_BUFFER` if they do not fit, `CODE_NOT_FOUND` if there are none, or `CODE_MISUSED` if the slot has no
-/// session.
+/// `CODE_OK`, `CODE_SHORT_BUFFER` if they do not fit, `CODE_NOT_FOUND` if there are none, `CODE_TOO_LONG` if a play has too many,
+/// `CODE_OUT_OF_MEMORY` if an allocation fails, or `CODE_MISUSED` if the slot has no session.
 #[derive(Drop)]
 pub struct CopyAnswer {
     pub code: u32,

@@ -1,10 +1,11 @@
 //! The calls that read the play of a number.
 
 ghost use Rattle.std.specs.Prelude.{◌≡◌, ◌++◌, IfOk, None, OnOk, map};
+ghost use Rattle.abc_play.specs.Play.{play_of};
 ghost use Rattle.c_handle.specs.Copies.{copy_answer};
 ghost use Rattle.c_handle.specs.PlayRecords.{CopiesPlay, play_answer, play_record, play_records, refusal_code, track_sizes};
 ghost use Rattle.c_handle.specs.Slot.{session_in};
-ghost use Rattle.c_handle.specs.TokenRecords.{CopiesOrFails};
+ghost use Rattle.c_handle.specs.TokenRecords.{CopiesFound, CopiesOrFails};
 
 use crate::codes::{CODE_NOT_FOUND, CODE_OUT_OF_MEMORY, CODE_TOO_LONG};
 use crate::copying::{CopyAnswer, copy, without_items};
@@ -85,8 +86,8 @@ fn copy_records(alloc: Global, play: &Play, records: &mut [PlayRecord]) -> CopyA
 /// Copies the sizes of the tracks of a number's play, unless it is refused or an allocation fails.
 #[tactic(auto, using(crate::proofs::PlayCopies::copied, crate::proofs::PlayCopies::refused))]
 fn sizes_of_number(alloc: Global, session: &Session, number: u32, sizes: &mut [usize]) -> CopyAnswer
-    ensures value { CopiesOrFails (play_answer track_sizes session.now.text number sizes.old) sizes.old
-        (result.code, result.count, sizes.new) }
+    ensures value { CopiesFound (play_of session.now.text number) (play_answer track_sizes session.now.text number sizes.old)
+        sizes.old (result.code, result.count, sizes.new) }
 {
     match play_of_number(alloc, session, number) {
         Ok(play) => copy_sizes(alloc, &play, sizes),
@@ -102,8 +103,8 @@ fn records_of_number(
     number: u32,
     records: &mut [PlayRecord],
 ) -> CopyAnswer
-    ensures value { CopiesOrFails (play_answer play_records session.now.text number records.old) records.old
-        (result.code, result.count, records.new) }
+    ensures value { CopiesFound (play_of session.now.text number) (play_answer play_records session.now.text number records.old)
+        records.old (result.code, result.count, records.new) }
 {
     match play_of_number(alloc, session, number) {
         Ok(play) => copy_records(alloc, &play, records),

@@ -5,7 +5,7 @@ ghost use Rattle.abc_live.specs.Tokens.{tokens_at, work_at};
 ghost use Rattle.abc_tune.specs.Abc.{rules_of_abc};
 ghost use Rattle.c_handle.specs.Copies.{copy_answer, lookup_answer};
 ghost use Rattle.c_handle.specs.Slot.{session_in};
-ghost use Rattle.c_handle.specs.TokenRecords.{CopiesOrFails, CopiesTokens, token_record, work_in};
+ghost use Rattle.c_handle.specs.TokenRecords.{CopiesFound, CopiesOrFails, CopiesTokens, token_record, work_in};
 
 use crate::codes::{CODE_NOT_FOUND, CODE_OUT_OF_MEMORY};
 use crate::copying::{CopyAnswer, copy, without_items};
@@ -38,7 +38,7 @@ fn copy_records(alloc: Global, tokens: &[LineToken], records: &mut [TokenRecord]
 }
 
 /// Copies the tokens of a line of a session, unless an allocation fails.
-#[tactic(auto, using(crate::proofs::TokenCopies::missing))]
+#[tactic(auto, using(crate::proofs::TokenCopies::copied, crate::proofs::TokenCopies::missing, crate::proofs::TokenCopies::failed))]
 fn copy_of_line(
     alloc: Global,
     session: &Session,
@@ -46,8 +46,8 @@ fn copy_of_line(
     records: &mut [TokenRecord],
     work: &mut Work,
 ) -> CopyAnswer
-    ensures value { CopiesOrFails (lookup_answer (option_map (map token_record) (tokens_at rules_of_abc session.now.text number)) records.old)
-        records.old (result.code, result.count, records.new) }
+    ensures value { let tokens = option_map (map token_record) (tokens_at rules_of_abc session.now.text number) in
+        CopiesFound tokens (lookup_answer tokens records.old) records.old (result.code, result.count, records.new) }
     ensures counted { work.new ≡ work_at rules_of_abc session.now.text number work.old }
 {
     match session.tokens(number, work) {

@@ -29,7 +29,8 @@ impl Model for EventBytes {
 }
 
 impl EventBytes {
-    /// Returns a copy of these bytes, which allocates only if they do not fit in place.
+    /// Returns a copy of these bytes, which allocates only if they do not fit in place. It returns an error if an allocation
+    /// fails.
     pub fn from_slice(alloc: Global, bytes: &[u8]) -> Result<Self, AllocError>
         ensures ok { IfOk result (λ copy. copy ≡ bytes.now) }
         ensures succeeds { length bytes.now ≤ ROOM_IN_PLACE → IsOk result }

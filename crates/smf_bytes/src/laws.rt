@@ -7,7 +7,8 @@ ghost use Rattle.smf_bytes.specs.Event.{change_bytes, note_off, note_on, program
 ghost use Rattle.smf_bytes.specs.Number.{number_text};
 ghost use Rattle.smf_bytes.specs.Order.{event_cmp, in_order};
 
-/// A number is read back from its text whatever follows, so no number's text is the beginning of another's.
+/// A number is read back from its text whatever follows, so no number's text is the beginning of another's (SMF 1.0,
+/// variable-length quantities).
 pub fn number_texts()
     ensures read_back { (m n : ℕ) (xs ys : List ℕ) → m < 2 ^ 28 → n < 2 ^ 28
         → number_text m ++ xs ≡ number_text n ++ ys → (m ≡ n) × (xs ≡ ys) }

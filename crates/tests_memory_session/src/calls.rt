@@ -1,6 +1,6 @@
 //! The calls of this crate that are tried.
 
-use crate::{books, chains, outputs, plays, sessions, tunes};
+use crate::{answers, books, chains, lines, outputs, plays, sessions, tunes};
 use std::alloc::{AllocError, Global};
 use std::rt::Runtime;
 use tests_memory_layers::Trial;
@@ -34,10 +34,17 @@ pub enum Call {
     EmptySession,
     PreparedEdit,
     PlayedNumber,
+    LinesOfText,
+    LineTokens,
+    SessionTokens,
+    AnsweredEdit,
+    ListedFault,
+    ListedTitle,
+    HexBytes,
 }
 
 /// All of them.
-pub const CALLS: [Call; 27] = [
+pub const CALLS: [Call; 34] = [
     Call::RoomForPieces,
     Call::Piece,
     Call::FollowingPiece,
@@ -65,6 +72,13 @@ pub const CALLS: [Call; 27] = [
     Call::EmptySession,
     Call::PreparedEdit,
     Call::PlayedNumber,
+    Call::LinesOfText,
+    Call::LineTokens,
+    Call::SessionTokens,
+    Call::AnsweredEdit,
+    Call::ListedFault,
+    Call::ListedTitle,
+    Call::HexBytes,
 ];
 
 impl Trial for Call {
@@ -97,6 +111,13 @@ impl Trial for Call {
             Call::EmptySession => sessions::empty_session(rt, alloc),
             Call::PreparedEdit => sessions::prepared_edit(rt, alloc),
             Call::PlayedNumber => plays::played_number(rt, alloc),
+            Call::LinesOfText => lines::lines_in_text(rt, alloc),
+            Call::LineTokens => lines::tokens_of_line(rt, alloc),
+            Call::SessionTokens => lines::tokens_in_session(rt, alloc),
+            Call::AnsweredEdit => answers::answered_edit(rt, alloc),
+            Call::ListedFault => answers::listed_fault(rt, alloc),
+            Call::ListedTitle => answers::listed_title(rt, alloc),
+            Call::HexBytes => answers::hex_bytes(rt, alloc),
         }
     }
 }

@@ -2,9 +2,11 @@
 //! those of the lower layers. Each has its arguments and its expected result. Generic calls use the toy language.
 #![tactic(auto)]
 
+mod answers;
 mod books;
 mod calls;
 mod chains;
+mod lines;
 mod outputs;
 mod plays;
 mod sessions;

@@ -13,7 +13,7 @@ pub fn faults_at_places()
     ensures { FaultsLookedBack }
 {}
 
-/// A chord without a note gives no item, wherever it is, and does not change the state of any voice.
+/// A chord without a note gives no item, wherever it is, and does not change the state of any voice (ABC 2.1 section 4.17).
 pub fn empty_chords()
     ensures none { EmptyChordsGiveNone }
     ensures all { EmptyChordsLeaveAll }

@@ -19,7 +19,7 @@ ghost use Rattle.abc_bars.specs.LookBack.Place.{KindsApart};
 
 /// Looking back finds the state at a place of a header. Before the first line it is the opening values; each line then changes
 /// it as `file_header_result` or `header_result` says. The view there is this state and no more. A tune begins with the file
-/// header's values and no voices. After its first line it is in its header.
+/// header's values and no voices. After its first line it is in its header (ABC 2.1 section 2.2.2).
 #[tactic(auto, using(crate::proofs::HeaderViews::defaults_after, crate::proofs::HeaderLaws::header_at_following))]
 pub fn header_views()
     ensures values_open { (opening : Defaults) → defaults_at opening [] ≡ opening }
@@ -41,8 +41,8 @@ pub fn places_apart()
     ensures { KindsApart }
 {}
 
-/// The voices that a header declares, with which its body begins: no two have the same name, and there are no
-/// more than a tune may have.
+/// The voices that a header declares, with which its body begins: no two have the same name, and there are no more than a tune
+/// may have (ABC 2.1 section 7.1).
 pub fn declared_voices()
     ensures names { (opening : Defaults) (before : List HeaderLine) → keys_of (header_at opening before).voices
         ≡ declared_names before }

@@ -3,8 +3,8 @@
 ghost use Rattle.abc_bars.specs.LookBack.LineFaults.{AreLengthFaultsOfLines};
 ghost use Rattle.abc_bars.specs.LookBack.LineLengths.{ChordsOfLinesLast, NotesOfLinesLast, RestsOfLinesLast};
 
-/// Each note, rest and chord in a cell of a line meets the conditions of `lengths_at_places`, and so lasts as that law says. The
-/// cell may be at any place of a tune, after any file header or none.
+/// Each note, rest and chord in a cell of a line meets the conditions of `lengths_at_places`, and so lasts as that law says.
+/// The cell may be at any place of a tune, after any file header or none (ABC 2.1 section 4.3).
 pub fn lengths_in_lines()
     ensures notes { NotesOfLinesLast }
     ensures rests { RestsOfLinesLast }

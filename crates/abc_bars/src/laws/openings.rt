@@ -2,7 +2,7 @@
 
 ghost use Rattle.abc_bars.specs.LookBack.Openings.{DeclaredVoicesOpen, OtherVoicesOpen};
 
-/// A voice begins in a body with:
+/// A voice begins in a body with (ABC 2.1 sections 3.1.6, 3.1.7, 3.1.14 and 4.6):
 ///
 /// - meter: that of the header, else free meter;
 /// - unit note length: that of the header, else the one of this meter;

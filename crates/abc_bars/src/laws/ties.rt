@@ -13,7 +13,7 @@ ghost use Rattle.abc_bars.specs.LookBack.Ties.{IsTimeBefore, loose_ties, tied_af
 ghost use Rattle.abc_bars.specs.LookBack.Voice.{voice_state_at};
 ghost use Rattle.abc_bars_header.specs.declared.defaults.Defaults.{Defaults};
 
-/// In a cell of music, wherever it is, `LooseTie` is at exactly these ties:
+/// In a cell of music, wherever it is, `LooseTie` is at exactly these ties (ABC 2.1 section 4.11):
 ///
 /// - outside chords, those without a note or chord directly before them;
 /// - inside a chord, those without a note directly before them.
@@ -23,7 +23,7 @@ pub fn loose_ties_of_cells()
 {}
 
 /// The tied notes of a voice are those of its last note, chord or rest from which a tie leads on, each as it was altered at its
-/// own place. Before the first note, chord or rest there are none.
+/// own place. Before the first note, chord or rest there are none (ABC 2.1 section 4.11).
 #[tactic(auto, using(crate::proofs::LookBack::Ties::voice_state_at_ties, crate::proofs::LookBack::Ties::voice_state_at_no_ties))]
 pub fn ties_of_voices()
     ensures last { (opening : VoiceState) (before earlier : List Element) (token : Element) → IsTimeBefore before token earlier →

@@ -8,10 +8,10 @@ use Rattle.abc_play.proofs.Numbers.{no_owner}
 use Rattle.abc_play.proofs.play.play_of_number.Goals as goal
 
 pub play_of_owner-requires : goal.play_of_owner-requires
-play_of_owner-requires c = ap (λ (text : Text). owner_of (tunes_of text) c.args.number) c.kept_text.ensures.text ∙ sym c.in-Some.ensures
+play_of_owner-requires c = ap (λ (text : Text). owner_of (tunes_of text) c.args.number) c.kept_text.ensures.text ∙ sym c.in-Some.ensures.value
 
 pub returns-in-None-clause-refused : goal.returns-in-None-clause-refused
-returns-in-None-clause-refused c = no_owner c.args.session.now.text c.args.number (sym c.in-None.ensures)
+returns-in-None-clause-refused c = no_owner c.args.session.now.text c.args.number (sym c.in-None.ensures.value)
 
 pub returns-in-Some-clause-value : goal.returns-in-Some-clause-value
 returns-in-Some-clause-value c =

@@ -9,7 +9,7 @@ use Rattle.abc_play_sections.specs.Play.{content}
 use Rattle.abc_play_tune.specs.Play.{step_sections}
 use Rattle.abc_play_tune.specs.Stage.{size_in, section_time, stage_of}
 use Rattle.abc_play_tune.specs.Steps.{sections_from}
-use Rattle.abc_play_tune.specs.Table.{at_places}
+use Rattle.abc_voices_sections.specs.Table.{at_places}
 use Rattle.abc_play_tune.proofs.Tracks.{filter_map-played, sum_by-section_time}
 use Rattle.abc_play_tune.proofs.play.stages_of.Goals as goal
 

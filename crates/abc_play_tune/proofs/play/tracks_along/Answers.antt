@@ -1,7 +1,7 @@
 use Rattle.std.proofs.Common.{◌∙◌, arith}
 use Rattle.abc_voices_sections.specs.Items.{items_of}
 use Rattle.abc_play_tune.specs.Play.{counted_voices, played_sections}
-use Rattle.abc_play_tune.specs.Turns.{stages_in}
+use Rattle.abc_voices_sections.specs.Turns.{stages_in}
 use Rattle.abc_play_tune.proofs.Lengths.{are_stages}
 use Rattle.abc_play_tune.proofs.Tracks.{first_counted, stages_hold, length_along-total, for_voices-timed}
 use Rattle.abc_play_tune.proofs.play.tracks_along.Goals as goal

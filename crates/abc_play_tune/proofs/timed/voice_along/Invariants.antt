@@ -1,6 +1,6 @@
 use Rattle.std.proofs.Common.{◌≡◌, ◌+◌, ◌++◌, drop}
 use Rattle.abc_play_tune.specs.Timed.{timed_along}
-use Rattle.abc_play_tune.specs.Turns.{stages_in, length_along}
+use Rattle.abc_voices_sections.specs.Turns.{stages_in, length_along}
 use Rattle.abc_play_tune.proofs.timed.voice_along.Given as goal
 
 -- how long the other stages are; what is played so far, and what is played from here on

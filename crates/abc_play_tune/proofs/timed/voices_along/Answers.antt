@@ -2,7 +2,7 @@ use Rattle.std.proofs.Common.{arith}
 use Rattle.std.proofs.lemmas.Grind.{common_steps}
 use Rattle.abc_voices.proofs.Lengths.{voices_step}
 use Rattle.abc_play_tune.specs.Timed.{timed_along}
-use Rattle.abc_play_tune.specs.Turns.{stages_in}
+use Rattle.abc_voices_sections.specs.Turns.{stages_in}
 use Rattle.abc_play_tune.proofs.timed.voices_along.Goals as goal
 
 pub loop-voice-preserved : goal.loop-voice-preserved

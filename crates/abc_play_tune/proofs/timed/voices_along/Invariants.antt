@@ -1,7 +1,7 @@
 use Rattle.std.proofs.Common.{◌≡◌, ◌-◌, ◌++◌}
 use Rattle.abc_voices.specs.Turns.{for_voices}
 use Rattle.abc_play_tune.specs.Timed.{timed_along}
-use Rattle.abc_play_tune.specs.Turns.{stages_in}
+use Rattle.abc_voices_sections.specs.Turns.{stages_in}
 use Rattle.abc_play_tune.proofs.timed.voices_along.Given as goal
 
 -- the voices so far, and the others

@@ -1,9 +1,10 @@
-use Rattle.std.proofs.Common.{◌≡◌, ◌≤◌, ℕ, Err, ap, subst, ◌∙◌, arith}
+use Rattle.std.proofs.Common.{◌≡◌, ◌<◌, ◌≤◌, ℕ, Err, ap, subst, ◌∙◌, arith}
 use Rattle.abc_time.specs.Grains.{grains_of_the_latest_end}
 use Rattle.abc_voices_sections.specs.Items.{items_of}
 use Rattle.abc_voices.specs.Turns.{stages_in}
 use Rattle.abc_voices_sections.specs.declared.stage.StageError.TheVariants.{TooLate}
 use Rattle.abc_voices_score.specs.declared.score.Score.{Score}
+use Rattle.abc_voices.proofs.Borrowed.{length_along-items}
 use Rattle.abc_voices.proofs.OfFields.{score_of_fields}
 use Rattle.abc_voices.proofs.Layouts.{stages_hold, late_total, late_end, score_is, uneven_is, first_within}
 use Rattle.abc_voices.proofs.Lengths.{are_stages}
@@ -11,7 +12,7 @@ use Rattle.abc_voices.proofs.Steady.{kept_along, steady_along}
 use Rattle.abc_voices.proofs.layout.lay_out_turns.Goals as goal
 
 pub returns-in_default-clause-too_late : goal.returns-in_default-clause-too_late
-returns-in_default-clause-too_late c = λ _. late_total (items_of c.args.tune.now) (stages_in c.args.turns.now) c.requires.stages c.in_default.ensures
+returns-in_default-clause-too_late c = λ _. late_total (items_of c.args.tune.now) (stages_in c.args.turns.now) c.requires.stages (subst (λ (n : ℕ). grains_of_the_latest_end < n) (length_along-items c.args.turns.now) c.in_default.ensures)
 
 pub score_along-requires-clause-stages : goal.score_along-requires-clause-stages
 score_along-requires-clause-stages c =
@@ -50,3 +51,6 @@ returns-in-Err-clause-too_late c = λ e.
     let same : c.in-Err.why ≡ TooLate = cc in
     late_end (items_of c.args.tune.now) (stages_in c.args.turns.now) c.first_track-first.result c.args.count c.requires.stages c.first_track-first.ensures c.requires.count
     (c.in-Err.ensures.too_late (ap Err same))
+
+pub score_along-requires-clause-total : goal.score_along-requires-clause-total
+score_along-requires-clause-total c = c.in-Some.ensures.0 ∙ length_along-items c.args.turns.now

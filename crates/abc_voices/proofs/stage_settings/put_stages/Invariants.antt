@@ -1,5 +1,6 @@
 use Rattle.std.proofs.Common.{◌≡◌, ◌+◌, ◌++◌, drop}
-use Rattle.abc_voices.specs.Turns.{stages_in, length_along, set_by_one}
+use Rattle.abc_voices.specs.Turns.{stages_in, set_by_one}
+use Rattle.abc_voices_sections.specs.Turns.{length_along}
 use Rattle.abc_voices.proofs.stage_settings.put_stages.Given as goal
 
 -- how long the other stages are; what is set so far, and what is set from here on

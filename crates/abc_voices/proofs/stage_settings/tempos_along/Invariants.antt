@@ -1,5 +1,6 @@
 use Rattle.std.proofs.Common.{◌≡◌, ◌∷◌, ◌+◌, ◌++◌, drop}
-use Rattle.abc_voices.specs.Turns.{stages_in, length_along, set_by_all}
+use Rattle.abc_voices.specs.Turns.{stages_in, set_by_all}
+use Rattle.abc_voices_sections.specs.Turns.{length_along}
 use Rattle.abc_voices.specs.Change.{tempo_of}
 use Rattle.abc_voices.proofs.stage_settings.tempos_along.Given as goal
 

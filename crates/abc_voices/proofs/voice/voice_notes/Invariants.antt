@@ -1,6 +1,7 @@
 use Rattle.std.proofs.Common.{◌≡◌, ◌≤◌, length, take, drop}
 use Rattle.abc_time.specs.Grains.{grains_of_the_latest_end}
-use Rattle.abc_voices.specs.Turns.{stages_in, length_along, notes_along}
+use Rattle.abc_voices.specs.Turns.{stages_in, notes_along}
+use Rattle.abc_voices_sections.specs.Turns.{length_along}
 use Rattle.abc_voices.specs.TiedNotes.{notes_in}
 use Rattle.abc_voices.proofs.voice.voice_notes.Given as goal
 

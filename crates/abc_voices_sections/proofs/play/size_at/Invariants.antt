@@ -6,4 +6,4 @@ use Rattle.abc_voices_sections.proofs.play.size_at.Given as goal
 
 -- how many are at the places that are passed
 abbrev pub invariant-loop-place : goal.invariant-loop-place
-invariant-loop-place l = l.size ≡ min (length (flat_map (items_at (runs_of l.item_runs)) (take l.place-index l.places))) (2 ^ 64 - 1)
+invariant-loop-place g l = l.size ≡ min (length (flat_map (items_at (runs_of l.item_runs)) (take l.place-index l.places))) (2 ^ 64 - 1)

@@ -1,0 +1,3 @@
+pub mod HeardCells
+pub mod UntiedKeys
+pub mod Walks

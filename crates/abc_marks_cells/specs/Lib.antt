@@ -1,0 +1,11 @@
+pub mod CellWalk
+pub mod GraceLength
+pub mod GraceNotes
+pub mod Hearing
+pub mod Keys
+pub mod Laws
+pub mod Neighbour
+pub mod Reading
+pub mod TokenText
+pub mod WaitingMark
+pub mod WrittenMark

@@ -1,0 +1,2 @@
+pub mod BaseHalves
+pub mod MarkedSteps

@@ -1,0 +1,4 @@
+pub mod BaseHalf
+pub mod CellMarks
+pub mod LineCells
+pub mod PerformedSteps

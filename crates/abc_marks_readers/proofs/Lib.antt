@@ -1,0 +1,4 @@
+pub mod ChordKinds
+pub mod Decorations
+pub mod Names
+pub mod Steps

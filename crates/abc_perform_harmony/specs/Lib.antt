@@ -1,0 +1,5 @@
+pub mod Harmony
+pub mod KeepStep
+pub mod ProgramItems
+pub mod StepItem
+pub mod StretchItems

@@ -1,0 +1,4 @@
+pub mod Fermatas
+pub mod GraceTimes
+pub mod KeptTime
+pub mod Wholes

@@ -1,0 +1,10 @@
+pub mod Decorations
+pub mod GraceItems
+pub mod Fermata
+pub mod Graces
+pub mod ItemParts
+pub mod Ornamented
+pub mod Performance
+pub mod SpreadChord
+pub mod Time
+pub mod ToneChange

@@ -1,0 +1,5 @@
+pub mod KeepStep
+pub mod Layer
+pub mod LayerState
+pub mod LayerStep
+pub mod Limit

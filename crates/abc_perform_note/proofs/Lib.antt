@@ -1,0 +1,2 @@
+pub mod Alternations
+pub mod Shares

@@ -1,0 +1,11 @@
+pub mod Grace
+pub mod Key
+pub mod Length
+pub mod Mordents
+pub mod Ornament
+pub mod Part
+pub mod Rolls
+pub mod Slides
+pub mod Spread
+pub mod Trills
+pub mod Turns

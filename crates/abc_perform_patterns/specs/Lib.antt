@@ -1,0 +1,3 @@
+pub mod MeterPattern
+pub mod KeepStep
+pub mod Stretch

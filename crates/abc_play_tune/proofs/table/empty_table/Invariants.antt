@@ -1,7 +1,0 @@
-use Rattle.std.proofs.Common.{◌≡◌, map, take}
-use Rattle.std.specs.Prelude.{None}
-use Rattle.abc_play_tune.proofs.table.empty_table.Given as goal
-
--- none for each section that is passed
-abbrev pub invariant-loop-section : goal.invariant-loop-section
-invariant-loop-section l = l.table.items ≡ map (λ section. None) (take l._section-index l.sections)

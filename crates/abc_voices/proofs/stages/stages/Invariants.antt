@@ -1,7 +1,0 @@
-use Rattle.std.proofs.Common.{map, take}
-use Rattle.abc_voices.specs.Stages.{ArePut}
-use Rattle.abc_voices.proofs.stages.stages.Given as goal
-
--- the stages of the sections that are passed are in the table
-abbrev pub invariant-loop-place : goal.invariant-loop-place
-invariant-loop-place l = ArePut (map (λ voice. voice.now) l.voices) l.sections (take l.place-index l.played) l.room l.table.items
