@@ -3,12 +3,11 @@
 from __future__ import annotations
 
 import errno
-import fcntl
 import os
-import re
-from contextlib import suppress
 
-from abc2midi_live_clients.midi_folder import open_lock
+from abc2midi_live_clients.common.lock_file import FileLocked, lock_file, open_lock, write_owner
+
+from .disks import sync_file_system
 
 LOCK = ".archive.lock"  # it stays: a lock file that is removed could be locked twice
 
@@ -17,12 +16,30 @@ class ArchiveTaken(Exception):
     """Another run has the archive."""
 
 
-class Archive:
+class Folder:
+    """The folder of an archive, which may be missing."""
+
+    def __init__(self, path: str):
+        self.path = os.path.abspath(path)
+
+    def inside(self, name: str) -> str:
+        """Returns the path of a name in the folder."""
+        return os.path.join(self.path, name)
+
+    def names(self) -> list[str]:
+        """Returns the names in the folder. Raises OSError."""
+        try:
+            return os.listdir(self.path)
+        except FileNotFoundError:
+            return []
+
+
+class Archive(Folder):
     """A folder that this run has locked. The system frees the lock when this process ends, in whatever way."""
 
     def __init__(self, path: str):
         """Makes and locks the folder. Raises OSError and ArchiveTaken."""
-        self.path = os.path.abspath(path)
+        super().__init__(path)
         try:
             os.mkdir(self.path)
         except FileExistsError:
@@ -30,19 +47,15 @@ class Archive:
                 raise NotADirectoryError(errno.ENOTDIR, os.strerror(errno.ENOTDIR), path) from None
         self.lock = open_lock(self.inside(LOCK))
         try:
-            fcntl.flock(self.lock, fcntl.LOCK_EX | fcntl.LOCK_NB)
-        except BlockingIOError:
-            owner = re.match(rb"[0-9]{1,10}", os.read(self.lock, 10))
+            lock_file(self.lock)
+        except FileLocked as locked:
             os.close(self.lock)
-            who = f" (process {owner[0].decode()})" if owner else ""
-            raise ArchiveTaken(f"another run works in this folder{who}; wait for it, or name another folder by --to") from None
-        with suppress(OSError):  # another user made the file
-            os.ftruncate(self.lock, 0)
-            os.write(self.lock, b"%d\n" % os.getpid())
+            raise ArchiveTaken(f"another run works in this folder{locked.owner}; wait for it, or name another folder by --to") from None
+        write_owner(self.lock)
 
-    def inside(self, name: str) -> str:
-        """Returns the path of a name in the folder."""
-        return os.path.join(self.path, name)
+    def sync(self) -> None:
+        """Has all files of the folder reach its disk. Raises OSError."""
+        sync_file_system(self.lock)
 
     def release(self) -> None:
         """Frees the folder."""

@@ -4,66 +4,29 @@ Only the run that locked the archive writes it. A book and what belongs to it is
 
 from __future__ import annotations
 
+import os
 import sqlite3
 import time
-from collections.abc import Iterator, Sequence
+from collections.abc import Callable, Iterable, Iterator, Sequence
+from contextlib import closing, contextmanager
+from pathlib import Path
 from typing import Any, NamedTuple, Optional
 
-from abc2midi_live_clients.faults import meanings
+from abc2midi_live_clients.common.faults import meanings
 
 from .names import stored
 from .sources import Source
-from .units import Result
+from .tables import OtherVersion, make_tables
+from .units import Result, number_of_file
 
 NAME = "catalogue.sqlite"
-VERSION = 1  # of the tables
 SECONDS_BETWEEN_COMMITS = 0.5
+MOST_PAUSES = 4  # a commit may take a fifth of the time
 SECONDS_TO_WAIT = 60.0  # for somebody who reads the catalogue
-TABLES = """
-CREATE TABLE IF NOT EXISTS books (
-    id INTEGER PRIMARY KEY,
-    name TEXT NOT NULL UNIQUE,
-    source TEXT NOT NULL UNIQUE,
-    digest TEXT,
-    options TEXT,
-    size INTEGER NOT NULL DEFAULT 0,
-    lines INTEGER NOT NULL DEFAULT 0,
-    parts INTEGER NOT NULL DEFAULT 1,
-    tunes INTEGER NOT NULL DEFAULT 0,
-    files INTEGER NOT NULL DEFAULT 0,
-    faults INTEGER NOT NULL DEFAULT 0,
-    hints INTEGER NOT NULL DEFAULT 0,
-    seconds REAL NOT NULL DEFAULT 0,
-    problem TEXT
-);
-CREATE TABLE IF NOT EXISTS tunes (
-    book INTEGER NOT NULL REFERENCES books,
-    number INTEGER NOT NULL,
-    title TEXT NOT NULL,
-    line INTEGER NOT NULL,
-    key TEXT,
-    meter TEXT,
-    size INTEGER,
-    sha256 TEXT,
-    ticks INTEGER,
-    notes INTEGER
-);
-CREATE TABLE IF NOT EXISTS remarks (
-    book INTEGER NOT NULL REFERENCES books,
-    kind TEXT NOT NULL,
-    line INTEGER NOT NULL,
-    column INTEGER NOT NULL,
-    name TEXT NOT NULL,
-    sentence TEXT,
-    excerpt TEXT NOT NULL,
-    mark INTEGER NOT NULL
-);
-CREATE TABLE IF NOT EXISTS meanings (name TEXT PRIMARY KEY, wrong TEXT NOT NULL, instead TEXT NOT NULL);
-CREATE INDEX IF NOT EXISTS tunes_of_book ON tunes (book);
-CREATE INDEX IF NOT EXISTS remarks_of_book ON remarks (book);
-"""
 BOOK = """UPDATE books SET digest = ?, options = ?, size = ?, lines = ?, parts = ?, tunes = ?, files = ?, faults = ?, hints = ?,
-    seconds = ?, problem = NULL WHERE id = ?"""
+    seconds = ?, hidden = ?, problem = NULL WHERE id = ?"""
+RUN = "INSERT INTO runs SELECT ?, count(*), total(tunes), total(files), total(faults) FROM books"
+OF_BOOKS = ("tunes", "losses", "remarks")  # the tables with rows of a book
 
 
 class BadCatalogue(Exception):
@@ -83,19 +46,23 @@ class Known(NamedTuple):
 class Catalogue:
     """An open catalogue."""
 
-    def __init__(self, path: str):
-        """Opens a catalogue, or makes one. Raises BadCatalogue."""
-        self.path = path
+    def __init__(self, path: str, sync_files: Callable[[], None] = lambda: None, is_copy: bool = False):
+        """Opens a catalogue, or makes one. `sync_files` has the files reach the disk of which it says that they are there. A copy is in
+        memory, and leaves the file as it is. Raises BadCatalogue."""
+        self.path, self.sync_files = path, sync_files
+        self.is_ahead = False  # of the files on the disk
+        self.pause = SECONDS_BETWEEN_COMMITS
+        if os.path.islink(path):
+            raise BadCatalogue(f"{path} is a symbolic link")
         try:
-            self.database = sqlite3.connect(path, SECONDS_TO_WAIT, isolation_level=None)
-            self.database.execute("PRAGMA synchronous = NORMAL")
-            version = self.database.execute("PRAGMA user_version").fetchone()[0]
-            if version not in (0, VERSION):
-                raise BadCatalogue(f"{path} has tables of version {version}, and this program writes version {VERSION}")
-            self.database.executescript(f"BEGIN; {TABLES} PRAGMA user_version = {VERSION}; COMMIT;")
+            self.database = copied(path) if is_copy else sqlite3.connect(path, SECONDS_TO_WAIT, isolation_level=None)
+            self.database.execute("PRAGMA synchronous = FULL")
+            make_tables(self.database)
             self.database.execute("BEGIN")
             rows = [(meaning.name, meaning.wrong, meaning.instead) for meaning in meanings()]
             self.database.executemany("INSERT OR REPLACE INTO meanings VALUES (?, ?, ?)", rows)
+        except OtherVersion as error:
+            raise BadCatalogue(f"{path} {error}") from error
         except sqlite3.Error as error:
             raise BadCatalogue(f"{path}: {error}") from error
         self.committed = time.monotonic()
@@ -117,32 +84,59 @@ class Catalogue:
 
     def files_of(self, book: int) -> dict[int, str]:
         """Returns the numbers that have a file in a book, with the digests of the files."""
-        return dict(self.ask("SELECT number, sha256 FROM tunes WHERE book = ? AND sha256 IS NOT NULL", book))
+        return self.by_file("sha256", book)
+
+    def sizes_of(self, book: int) -> dict[int, int]:
+        """Returns the numbers that have a file in a book, with the sizes of the files."""
+        return self.by_file("size", book)
+
+    def by_file(self, column: str, book: int) -> dict[int, Any]:
+        """Returns a column of the tunes of a book that have a file, by the numbers of the files."""
+        rows = self.ask(f"SELECT file, {column} FROM tunes WHERE book = ? AND file IS NOT NULL", book)
+        return {number_of_file(file): value for file, value in rows}
+
+    def see(self, sources: Iterable[Source], moment: str) -> None:
+        """Notes that a run found these books."""
+        self.add_many("UPDATE books SET seen = ? WHERE source = ?", ((moment, stored(source.identity)) for source in sources))
+
+    def remove(self, book: int) -> None:
+        """Removes a book. If that is interrupted, all of it is as it was before."""
+        with self.one_change():
+            for table in OF_BOOKS:
+                self.ask(f"DELETE FROM {table} WHERE book = ?", book)
+            self.ask("DELETE FROM books WHERE id = ?", book)
 
     # ---- what a run found
 
     def keep(self, book: int, result: Result, options: str) -> None:
         """Replaces what is known of a book by a result. If that is interrupted, all of it is as it was before."""
+        self.is_ahead = True
+        with self.one_change():
+            self.replace(book, result, options)
+        self.commit_sometimes()
+
+    @contextmanager
+    def one_change(self) -> Iterator[None]:
+        """Does all that is asked inside, or, if that is interrupted, nothing of it."""
         self.ask("SAVEPOINT change")
         try:
-            self.replace(book, result, options)
+            yield
         except BaseException:
             if self.database.in_transaction:
                 self.ask("ROLLBACK TO change")
             raise
         self.ask("RELEASE change")
-        self.commit_sometimes()
 
     def replace(self, book: int, result: Result, options: str) -> None:
         """Replaces what is known of a book by a result."""
-        self.ask("DELETE FROM tunes WHERE book = ?", book)
-        self.ask("DELETE FROM remarks WHERE book = ?", book)
-        self.add_rows("tunes", book, result.tunes)
-        self.add_rows("remarks", book, result.remarks)
-        files = sum(tune.sha256 is not None for tune in result.tunes)
+        for table in OF_BOOKS:
+            self.ask(f"DELETE FROM {table} WHERE book = ?", book)
+        for table, rows in zip(OF_BOOKS, (result.tunes, result.losses, result.remarks)):
+            self.add_rows(table, book, rows)
+        files = sum(tune.file is not None for tune in result.tunes)
         counts = len(result.tunes), files, result.fault_count, result.hint_count
         sizes = result.size, result.lines, result.parts
-        self.ask(BOOK, result.digest, options, *sizes, *counts, result.seconds, book)
+        self.ask(BOOK, result.digest, options, *sizes, *counts, result.seconds, result.hidden, book)
 
     def keep_problem(self, book: int, problem: str) -> None:
         """Notes why a book is not compiled. What earlier runs found stays, and the next run tries it again."""
@@ -153,23 +147,26 @@ class Catalogue:
         """Adds rows of a book to a table."""
         if rows:
             marks = ", ".join("?" * (1 + len(rows[0])))
-            try:
-                self.database.executemany(f"INSERT INTO {table} VALUES ({marks})", ((book, *row) for row in rows))
-            except sqlite3.Error as error:
-                raise BadCatalogue(f"{self.path}: {error}") from error
+            self.add_many(f"INSERT INTO {table} VALUES ({marks})", ((book, *row) for row in rows))
+
+    def note_run(self, moment: str) -> None:
+        """Notes what the catalogue has at the end of a run."""
+        self.ask(RUN, moment)
 
     # ---- transactions and questions
 
     def commit_sometimes(self) -> None:
         """Commits what is kept, if the last commit is some time ago."""
-        if time.monotonic() - self.committed >= SECONDS_BETWEEN_COMMITS:
+        if time.monotonic() - self.committed >= self.pause:
             self.commit()
 
     def commit(self) -> None:
-        """Commits what is kept."""
+        """Commits what is kept. The slower the disk is, the longer the next commit waits."""
+        started = time.monotonic()
         self.end_transaction()
         self.ask("BEGIN")
         self.committed = time.monotonic()
+        self.pause = max(SECONDS_BETWEEN_COMMITS, MOST_PAUSES * (self.committed - started))
 
     def close(self) -> None:
         """Commits what is kept, and closes the catalogue. Raises BadCatalogue."""
@@ -179,9 +176,20 @@ class Catalogue:
             self.database.close()
 
     def end_transaction(self) -> None:
-        """Commits what is kept. A full disk ends the transaction, and so does an interrupt after the COMMIT of `commit`."""
+        """Commits what is kept. A full disk ends the transaction, and so does an interrupt after the COMMIT of `commit`. The files are on
+        their disk before the catalogue says so. Raises BadCatalogue and OSError."""
         if self.database.in_transaction:
+            if self.is_ahead:
+                self.sync_files()
+                self.is_ahead = False
             self.ask("COMMIT")
+
+    def add_many(self, question: str, rows: Iterable[Sequence[Any]]) -> None:
+        """Asks the database once for each row. Raises BadCatalogue."""
+        try:
+            self.database.executemany(question, rows)
+        except sqlite3.Error as error:
+            raise BadCatalogue(f"{self.path}: {error}") from error
 
     def ask(self, question: str, *values: Any) -> Iterator[Any]:
         """Asks the database. Raises BadCatalogue."""
@@ -189,3 +197,12 @@ class Catalogue:
             return iter(self.database.execute(question, values))
         except sqlite3.Error as error:
             raise BadCatalogue(f"{self.path}: {error}") from error
+
+
+def copied(path: str) -> sqlite3.Connection:
+    """Returns a copy of a database in memory. It is empty if there is no file. Raises sqlite3.Error."""
+    copy = sqlite3.connect(":memory:", isolation_level=None)
+    if os.path.exists(path):
+        with closing(sqlite3.connect(f"{Path(path).absolute().as_uri()}?mode=ro", SECONDS_TO_WAIT, uri=True)) as database:
+            database.backup(copy)
+    return copy

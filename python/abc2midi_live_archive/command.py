@@ -3,104 +3,45 @@
 from __future__ import annotations
 
 import argparse
-import hashlib
 import os
-import signal
 import sys
-from typing import Any, Optional
+import tempfile
+from collections.abc import Iterable
+from typing import Any, NamedTuple, Optional
 
-import abc2midi_live
-from abc2midi_live import LibraryMissing, ProgramMissing
-from abc2midi_live_clients.printing import printable
-from abc2midi_live_clients.program import add_common_options
-from abc2midi_live_clients.signals import when_told_to_end
+from abc2midi_live import ProgramMissing
+from abc2midi_live_clients.common.signals import when_told_to_end
+from abc2midi_live_clients.common.terminal_text import count_of, printable
 
-from .archive import Archive, ArchiveTaken
+from .archive import Archive, ArchiveTaken, Folder
+from .arguments import arguments
 from .catalogue import NAME, BadCatalogue, Catalogue
+from .choosing import Patterns
 from .cluster import Cluster, NoCluster
-from .exports import FORMATS, export
+from .dry_run import DryRun
+from .exports import export, export_losses
+from .manner import manner_of
 from .planning import Manner, plan_books
 from .pool import Pool
-from .progress import start_progress
-from .report import write_report
-from .run import Run
-from .sources import BadSource, Source, find_books, reason
-from .units import Backend
+from .progress import Progress, start_progress
+from .pruning import gone_books
+from .report.page import write_report
+from .run import Run, ignore_signals, now
+from .sources import BadSource, Source, Trouble, find_books, reason
+from .units import Effect
 from .workers import Workers
+from .zipped import is_zip_archive, pack, unpack, work_folder
 
-DONE, FAILED, WRONG_ARGUMENTS, NOTHING_COMPILES = 0, 1, 2, 127  # exit statuses
-FORM = 1  # of what a run finds: another number has all books compiled again
-
-
-def processes(text: str) -> int:
-    """A count of processes, as the option `--jobs` has it."""
-    count = int(text)
-    if not 1 <= count <= 1024:
-        raise ValueError
-    return count
+DONE, FAILED, WRONG_ARGUMENTS, NOT_COMPLETE, NOTHING_COMPILES = 0, 1, 2, 3, 127  # exit statuses
+NOT_PRUNED = "nothing is pruned, since a source could not be read"
 
 
-def arguments() -> argparse.Namespace:
-    """The arguments of the command line."""
-    parser = argparse.ArgumentParser(
-        description=__doc__,
-        epilog="Ctrl-C ends a run with a summary; the same command resumes it. Exit status: 0 if all books are done; 1 if some "
-        "could not be read or written, or the run was stopped; 2 for wrong arguments; 127 if there is no library and no program.",
-    )
-    sources = "a tune book, a folder, a .zip or .tar.gz; - reads names from standard input, one a line"
-    parser.add_argument("sources", metavar="SOURCE", nargs="+", help=sources)
-    parser.add_argument("--to", metavar="DIR", required=True, help="the folder of the archive; it is made if it is missing")
-    parser.add_argument("--jobs", metavar="N", type=processes, help="use N processes; without it one for each processor")
-    parser.add_argument("--scheduler", metavar="ADDRESS", help="use the workers of this Dask scheduler, as tcp://host:8786")
-    parser.add_argument("--collect", action="store_true", help="read and write all files here, so that workers need no shared disk")
-    parser.add_argument("--hints", action="store_true", help="find hints, too; this takes several times as long")
-    parser.add_argument("--changed", action="store_true", help="print which files differ from those of the last run")
-    forms = "write the catalogue as tables of this form, too: csv or jsonl"
-    parser.add_argument("--catalogue", metavar="FORM", choices=sorted(FORMATS), action="append", default=[], help=forms)
-    parser.add_argument("--report", metavar="FILE", help="write a page with charts of the whole archive")
-    parser.add_argument("--library", metavar="FILE", help="compile by this C library")
-    add_common_options(parser)
-    words = parser.parse_args()
-    if words.library and words.program:
-        parser.error("name a library or a program, not both")
-    if words.jobs and words.scheduler:
-        parser.error("--jobs is for this machine alone: leave out --jobs or --scheduler")
-    return words
+class Books(NamedTuple):
+    """The books of the sources, those of them that a run takes, and whether all sources could be read."""
 
-
-def find_backend(words: argparse.Namespace) -> Backend:
-    """What compiles. It is looked for once, and not by each worker. Raises ProgramMissing."""
-    if words.library or words.program:
-        return Backend(absolute(words.library), absolute(words.program))
-    try:
-        return Backend(library=abc2midi_live.find_library())
-    except LibraryMissing as missing:
-        try:
-            return Backend(program=abc2midi_live.find_program())
-        except ProgramMissing as also:
-            raise ProgramMissing(f"{missing}; {also}") from also
-
-
-def absolute(name: Optional[str]) -> Optional[str]:
-    """The path of a file; a name without a folder is for the system to find."""
-    return os.path.abspath(name) if name and "/" in name else name
-
-
-def manner_of(words: argparse.Namespace) -> Manner:
-    """How books are compiled. Raises ProgramMissing."""
-    backend = find_backend(words)
-    options = f"{FORM} {abc2midi_live.version()} {digest_of(backend)}{' hints' if words.hints else ''}"
-    return Manner(backend, words.hints, words.collect, options)
-
-
-def digest_of(backend: Backend) -> str:
-    """A short name of what compiles: another library may compile otherwise."""
-    name = backend.library or backend.program or ""
-    try:
-        with open(name, "rb") as file:
-            return hashlib.sha256(file.read()).hexdigest()[:16]
-    except OSError:
-        return os.path.basename(name)
+    found: list[Source]
+    taken: list[Source]
+    are_whole: bool
 
 
 def interrupt(*_: Any) -> None:
@@ -113,69 +54,142 @@ def tell(text: str) -> None:
     print(f"archive: {text}", file=sys.stderr)
 
 
-def find_sources(words: argparse.Namespace) -> tuple[list[Source], bool]:
-    """The books, and whether all sources could be read."""
+def find_sources(words: argparse.Namespace) -> Books:
+    """The books of the sources."""
     found: list[Source] = []
     is_whole = True
-    for source in find_books(words.sources, sys.stdin.buffer):
+    for source in find_books(words.sources, names_on_input(words.nul), words.follow_links):
         if isinstance(source, BadSource):
-            is_whole = False
-            print(f"{printable(source.name)}: cannot be read: {printable(source.why)}", file=sys.stderr)
+            is_whole = is_whole and source.trouble is Trouble.SKIPPED
+            print(f"{printable(source.name)}: {source.trouble.value}: {printable(source.why)}", file=sys.stderr)
         else:
             found.append(source)
-    if is_whole and not found:
-        tell("there is no book: in folders and archives the names of books end in .abc")
-    return found, is_whole
+    taken = list(filter(Patterns(words.include, words.exclude).take, found))
+    if is_whole and not found:  # standard input was empty
+        tell("there is no book")
+    elif found and not taken:
+        tell("--include and --exclude leave no book")
+    return Books(found, taken, is_whole and bool(taken))
+
+
+def names_on_input(end_with_nul: bool) -> Iterable[bytes]:
+    """The names on standard input."""
+    return sys.stdin.buffer.read().split(b"\0") if end_with_nul else sys.stdin.buffer
 
 
 def fill(words: argparse.Namespace, manner: Manner, archive: Archive, catalogue: Catalogue) -> int:
     """Does the books of the sources; the exit status."""
-    sources, is_whole = find_sources(words)
-    planned = plan_books(sources, archive, catalogue)
-    workers: Workers = Cluster(words.scheduler) if words.scheduler else Pool(words.jobs or len(os.sched_getaffinity(0)))
+    books = find_sources(words)
+    planned = plan_books(books.taken, archive, catalogue)
     progress = start_progress(len(planned))
     run = Run(archive, catalogue, manner, words.changed, progress)
-    is_stopped = False
+    run.counts.left_out = len(books.found) - len(books.taken)
+    stopped: Optional[BaseException] = None
     try:
+        workers = start_workers(words, progress)
         run.do(planned, workers)
-    except KeyboardInterrupt:
-        signal.signal(signal.SIGINT, signal.SIG_IGN)  # the summary comes at once
-        is_stopped = True
+        catalogue.see(books.found, now())
+        if words.prune:
+            prune(run, books)
+        catalogue.commit()
+        workers.stop()
+    except (KeyboardInterrupt, BadCatalogue, NoCluster, OSError) as error:
+        ignore_signals()  # the summary comes at once
+        stopped = error
     finally:
         progress.close()
-    catalogue.commit()
-    print(f"{printable(words.to)}: {run.counts.summary(len(planned))}{'; stopped' if is_stopped else ''}", flush=True)
-    if not is_stopped:
-        workers.stop()
+    if manner.with_losses and not stopped:
+        run.count_states()
+    print(f"{printable(words.to)}: {run.counts.summary(len(planned))}{'; stopped' if stopped else ''}", flush=True)
+    if stopped and not isinstance(stopped, KeyboardInterrupt):
+        raise stopped
+    if not stopped:
         write_tables(words, archive, catalogue)
-    return DONE if is_whole and not is_stopped and not run.counts.problems else FAILED
+    if not books.are_whole or stopped or run.counts.problems:
+        return FAILED
+    return NOT_COMPLETE if words.strict and run.counts.states.keys() - {Effect.COMPLETE.value} else DONE
+
+
+def prune(run: Run, books: Books) -> None:
+    """Removes the books that are gone, if all sources and books could be read: a disk may be away. Raises BadCatalogue."""
+    gone = gone_books(run.catalogue, books.found)
+    if books.are_whole and not run.counts.unreadable:
+        run.prune(gone)
+    elif gone:
+        tell(NOT_PRUNED)
+
+
+def start_workers(words: argparse.Namespace, progress: Progress) -> Workers:
+    """Starts the workers that the command line asks for. Raises NoCluster."""
+    if words.scheduler:
+        return Cluster(words.scheduler, words.patience, lambda text: progress.message(f"archive: {text}", sys.stderr))
+    return Pool(words.jobs or len(os.sched_getaffinity(0)))
 
 
 def write_tables(words: argparse.Namespace, archive: Archive, catalogue: Catalogue) -> None:
     """Writes the tables and the report that the command line asks for."""
     for form in dict.fromkeys(words.catalogue):
         export(catalogue, archive.path, form)
+    if words.losses:
+        export_losses(catalogue, words.losses)
     if words.report:
-        write_report(catalogue, archive.path, words.report)
+        write_report(catalogue, os.path.abspath(words.to), words.report)
+    catalogue.note_run(now())  # after the report, which has what is new since the last one
 
 
 def run_command(words: argparse.Namespace) -> int:
     """Runs the command; the exit status."""
     manner = manner_of(words)
-    archive = Archive(words.to)
+    is_zip = is_zip_archive(words.to)
+    if words.dry_run:
+        return look(words, manner, is_zip)
+    archive = Archive(work_folder(words.to) if is_zip else words.to)
     try:
-        catalogue = Catalogue(archive.inside(NAME))
+        if is_zip:
+            unpack(words.to, archive.path)
+        catalogue = Catalogue(archive.inside(NAME), archive.sync)
         try:
-            return fill(words, manner, archive, catalogue)
+            status = fill(words, manner, archive, catalogue)
         finally:
             catalogue.close()
+        if is_zip:
+            pack(archive.path, words.to)
+        return status
     finally:
         archive.release()
 
 
+def look(words: argparse.Namespace, manner: Manner, is_zip: bool) -> int:
+    """Prints what a run would do; the exit status."""
+    books = find_sources(words)
+    with tempfile.TemporaryDirectory() as room:
+        folder = Folder(words.to)
+        if is_zip:
+            folder = Folder(work_folder(words.to))
+            if not os.path.exists(folder.inside(NAME)):
+                folder = Folder(room)
+                unpack(words.to, room)
+        return look_in(folder, words, manner, books)
+
+
+def look_in(folder: Folder, words: argparse.Namespace, manner: Manner, books: Books) -> int:
+    """Prints what a run would do in a folder; the exit status."""
+    catalogue = Catalogue(folder.inside(NAME), is_copy=True)
+    run = DryRun(folder, catalogue, manner)
+    for line in run.lines(books.taken):
+        print(line)
+    gone = gone_books(catalogue, books.found) if words.prune and books.are_whole and not run.problems else []
+    for book in gone:
+        print(f"{printable(book.name)}: to prune, with {count_of(book.files, 'file')}")
+    for name, why in run.problems.items():
+        print(f"{printable(name)}: cannot be read: {printable(why)}", file=sys.stderr)
+    print(f"{printable(words.to)}: {run.summary(gone)}", flush=True)
+    return DONE if books.are_whole and not run.problems else FAILED
+
+
 def main() -> int:
     """Runs the command, and says why it failed; the exit status."""
-    words = arguments()
+    words = arguments(__doc__)
     when_told_to_end(interrupt)
     try:
         return run_command(words)

@@ -5,54 +5,73 @@ from __future__ import annotations
 import hashlib
 import time
 from collections.abc import Iterator, Sequence
-from typing import NamedTuple, Optional
+from dataclasses import dataclass, field
+from typing import Any, NamedTuple, Optional
 
 import abc2midi_live
 from abc2midi_live import Fault, Session
 from abc2midi_live.lines import MOST_BYTES, lines_of_book
+from abc2midi_live_clients.common.line_places import is_inside_character, text_of
+from abc2midi_live_clients.common.session_book import Tune, line_to_send
 from abc2midi_live_clients.hints import Finder
-from abc2midi_live_clients.places import is_inside_character, text_of
-from abc2midi_live_clients.program import Tune, line_to_send
 
-from .cutting import Part, cut_book, tune_starts
-from .music import facts_of
+from .cutting import Part, cut_book
 from .reading import read_file
 from .sources import reason
 from .storing import has_files, store_files
-from .units import Backend, Kind, Outcome, Remark, Result, TuneRow, Unit
+from .tunes.fields import fields_of, file_header_of
+from .tunes.losses import Losses, state_of
+from .tunes.music import facts_of
+from .tunes.numbering import Text, insert_part
+from .units import Backend, Kind, Loss, Outcome, Remark, Result, TuneRow, Unit, path_of_file
 
 MOST_REMARKS = 10_000  # of a book that the catalogue has
 MOST_EXCERPT = 120  # characters
+NO_FILE = (None,) * (len(TuneRow._fields) - TuneRow._fields.index("file"))
 
 
-class Compiled(NamedTuple):
+@dataclass
+class Compiled:
     """What the parts of a book gave so far."""
 
-    files: dict[int, bytes]
-    tunes: list[TuneRow]
-    faults: list[Fault]
-    hints: list[Remark]
+    unit: Unit
+    files: dict[int, bytes] = field(default_factory=dict)
+    tunes: list[TuneRow] = field(default_factory=list)
+    faults: list[Fault] = field(default_factory=list)
+    hints: list[Remark] = field(default_factory=list)
+    losses: list[Loss] = field(default_factory=list)
+    hidden: int = 0
 
 
 def do_unit(unit: Unit) -> Result:
     """Does a unit. Whatever is wrong with the book or the folder is in the result."""
+    try:
+        return do_book(unit)
+    except (MemoryError, abc2midi_live.OutOfMemory):
+        return Result(Outcome.FAILED, unit.limits.too_large)
+    except abc2midi_live.Error as error:
+        return Result(Outcome.FAILED, str(error))
+    except Exception as error:  # a mistake of this package: it is one of this book alone
+        return Result(Outcome.FAILED, f"{type(error).__name__}: {error}")
+
+
+def do_book(unit: Unit) -> Result:
+    """Does a unit. Raises what compiling raises."""
     started = time.perf_counter()
     try:
-        data = read_file(unit.path) if unit.data is None else unit.data
+        data = read_file(unit.path, unit.follows) if unit.data is None else unit.data
     except OSError as error:
         return Result(Outcome.UNREADABLE, reason(error))
     digest = hashlib.sha256(data).hexdigest()
     try:
-        if digest == unit.known_digest and (unit.folder is None or has_files(unit.folder, unit.known_numbers)):
+        if digest == unit.known_digest and (unit.folder is None or has_files(unit.folder, unit.known_sizes)):
             return Result(Outcome.CURRENT, digest=digest)
         result = compile_book(data, digest, unit)
         if unit.folder is not None and result.files is not None:
-            store_files(unit.folder, result.files)
+            store_files(unit.folder, result.files, unit.syncs)
             result = result._replace(files=None)
     except OSError as error:
         return Result(Outcome.UNWRITABLE, reason(error))
-    except (MemoryError, abc2midi_live.Error) as error:
-        return Result(Outcome.FAILED, str(error) or "out of memory")
     return result._replace(seconds=time.perf_counter() - started)
 
 
@@ -61,12 +80,12 @@ def compile_book(data: bytes, digest: str, unit: Unit) -> Result:
     whole = lines_of_book(data)
     lines = [line_to_send(line) for line in whole] if max(map(len, whole), default=0) > MOST_BYTES else whole
     cut = cut_book(lines)
-    found = Compiled({}, [], [Fault(line, 1, "TooLarge") for line in cut.too_long], [])
+    found = Compiled(unit, faults=[Fault(line, 1, "TooLarge") for line in cut.too_long])
     if lines is not whole:
         found.faults.extend(Fault(n, MOST_BYTES + 1, "BadLine") for n, line in enumerate(whole, 1) if len(line) > MOST_BYTES)
     for n, part in enumerate(cut.parts):
         with open_session(unit.backend) as session:
-            compile_part(session, part, n == 0, Finder(unit.backend.library) if unit.with_hints else None, found)
+            compile_part(session, part, n == 0, found)
     found.faults.sort(key=lambda fault: fault[:2])
     faults = (fault_remark(fault, whole) for fault in found.faults[:MOST_REMARKS])
     return Result(
@@ -80,6 +99,8 @@ def compile_book(data: bytes, digest: str, unit: Unit) -> Result:
         fault_count=len(found.faults),
         hint_count=len(found.hints),
         files=found.files,
+        losses=tuple(found.losses),
+        hidden=found.hidden,
     )
 
 
@@ -88,20 +109,15 @@ def open_session(backend: Backend) -> Session:
     return abc2midi_live.open(library=backend.library, program=backend.program)
 
 
-def compile_part(session: Session, part: Part, is_first: bool, finder: Optional[Finder], found: Compiled) -> None:
-    """Adds what a part of a book has. A number belongs to its first tune in the book that is not too long."""
-    session.insert(1, part.lines)
-    faults = [fault for fault in session.faults if is_first or fault.line > part.header]
-    too_long = {fault.line for fault in faults if fault.name == "TuneTooLong"}
-    tunes = [Tune(number, text_of(text), start + 1) for (number, text), start in zip(session.titles, tune_starts(part.lines))]
-    for number, title, line in tunes:
-        data = session.output(number) if line not in too_long and number not in found.files else None
-        if data is not None:
-            found.files[number] = data
-        found.tunes.append(tune_row(Tune(number, title, part.line_of_book(line)), data))
+def compile_part(session: Session, part: Part, is_first: bool, found: Compiled) -> None:
+    """Adds what a part of a book has."""
+    text = insert_part(session, part, found.unit.numbering, len(found.tunes))
+    faults = [fault for fault in text.faults if is_first or fault.line > part.header]
+    tunes = [Tune(number, text_of(title), start + 1) for (number, title), start in zip(text.titles, text.starts)]
+    add_tunes(session, part, text, tunes, found)
     found.faults.extend(placed(faults, part))
-    if finder:
-        remarks = finder.hints(part.lines, tunes, faults)
+    if found.unit.with_hints:
+        remarks = Finder(found.unit.backend.library).hints(part.lines, tunes, faults)
         found.hints.extend(
             Remark(Kind.HINT.value, part.line_of_book(line), column, name, sentence, *excerpt(part.lines[line - 1], column))
             for line, column, name, sentence in remarks
@@ -109,13 +125,34 @@ def compile_part(session: Session, part: Part, is_first: bool, finder: Optional[
         )
 
 
-def tune_row(tune: Tune, data: Optional[bytes]) -> TuneRow:
-    """Returns the row of a tune, with the facts of its file if it has one."""
+def add_tunes(session: Session, part: Part, text: Text, tunes: Sequence[Tune], found: Compiled) -> None:
+    """Adds the tunes of a part, and their files. A number belongs to its first tune in the book that is not too long."""
+    too_long = {fault.line for fault in text.faults if fault.name == "TuneTooLong"}
+    file_header = file_header_of(part.lines[: text.starts[0] if text.starts else 0])
+    losses = Losses(session, part, text.faults, found.unit.reading) if found.unit.with_losses else None
+    for tune, number, start, end in zip(tunes, text.numbers, text.starts, [*text.starts[1:], len(part.lines)]):
+        data = session.output(number) if tune.line not in too_long and number not in found.files else None
+        if data is not None:
+            found.files[number] = data
+        elif tune.line not in too_long:
+            found.hidden += 1
+        line, place = part.line_of_book(tune.line), len(found.tunes) + 1
+        fields = fields_of(part.lines[start:end], line, file_header)
+        row = TuneRow._make((tune.number, tune.title, line, place, found.unit.reading, *fields, *file_columns(found.unit.book, number, data)))
+        if losses:
+            lost = losses.of_tune(place, start, start + fields.last_line - line + 1, number if data is not None else None)
+            row = row._replace(state=state_of(lost))
+            found.losses.extend(lost)
+        found.tunes.append(row)
+
+
+def file_columns(book: str, number: int, data: Optional[bytes]) -> tuple[Any, ...]:
+    """Returns what the row of a tune has of its file, from its path on."""
     if data is None:
-        return TuneRow(tune.number, tune.title, tune.line)
-    key, meter, ticks, notes = facts_of(data)
-    sha256 = hashlib.sha256(data).hexdigest()
-    return TuneRow(tune.number, tune.title, tune.line, key, meter, len(data), sha256, ticks, notes)
+        return NO_FILE
+    facts = facts_of(data)
+    of_file = path_of_file(book, number), len(data), hashlib.sha256(data).hexdigest()
+    return (*of_file, *facts, None)
 
 
 def placed(faults: Sequence[Fault], part: Part) -> Iterator[Fault]:

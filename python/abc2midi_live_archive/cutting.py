@@ -49,7 +49,8 @@ def cut_book(lines: Sequence[bytes], most: int = MOST_LINES) -> Cut:
 
 
 def spans(lines: Sequence[bytes], starts: Sequence[int], room: int, too_long: list[int]) -> Iterator[tuple[int, int]]:
-    """Yields the first line and the end of runs of tunes that fit a room. Adds tunes that do not to `too_long`."""
+    """Yields the first line and the end of runs of tunes that fit a room. Adds tunes that do not to `too_long`. A tune that fits only
+    without the free text after it is the last of its run, as this text is no less of the run than of the tune."""
     first = stop = -1  # of the run so far
     for start, end in zip(starts, [*starts[1:], len(lines)]):
         if end - start > room:
@@ -57,7 +58,7 @@ def spans(lines: Sequence[bytes], starts: Sequence[int], room: int, too_long: li
         is_too_long = end - start > room
         if is_too_long:
             too_long.append(start + 1)
-        if first >= 0 and (is_too_long or start != stop or end - first > room):
+        if first >= 0 and (is_too_long or end - first > room):
             yield first, stop
             first = -1
         if not is_too_long:

@@ -3,26 +3,29 @@
 from __future__ import annotations
 
 import csv
+import io
 import json
 import os
-import tempfile
 from collections.abc import Callable, Iterator, Sequence
-from contextlib import contextmanager, suppress
+from contextlib import contextmanager
 from typing import IO, Any
 
+from abc2midi_live_clients.common.replaced_file import replacing
+
 from .catalogue import Catalogue
+from .units import TuneRow
 
 Rows = Iterator[Sequence[Any]]
 
+OF_TUNES = [f"tunes.{name}" for name in TuneRow._fields]
 TABLES = {
     "books": (
-        "name source digest size lines parts tunes files faults hints seconds problem",
-        "SELECT name, source, digest, size, lines, parts, tunes, files, faults, hints, seconds, problem FROM books ORDER BY name",
+        "name source digest size lines parts tunes files faults hints seconds problem hidden seen",
+        "SELECT name, source, digest, size, lines, parts, tunes, files, faults, hints, seconds, problem, hidden, seen FROM books ORDER BY name",
     ),
     "tunes": (
-        "book number title line key meter size sha256 ticks notes",
-        "SELECT books.name, number, title, line, key, meter, tunes.size, sha256, ticks, notes FROM tunes "
-        "JOIN books ON books.id = book ORDER BY books.name, line",
+        f"book {' '.join(TuneRow._fields)}",
+        f"SELECT books.name, {', '.join(OF_TUNES)} FROM tunes JOIN books ON books.id = book ORDER BY books.name, tunes.line",
     ),
     "remarks": (
         "book kind line column name sentence excerpt mark",
@@ -30,6 +33,13 @@ TABLES = {
         "JOIN books ON books.id = book ORDER BY books.name, line, column",
     ),
 }
+LOSSES = (
+    "book place number line title reading state kind effect count lines",
+    "SELECT books.name, tunes.place, number, line, title, reading, state, kind, effect, count, losses.lines FROM tunes "
+    "JOIN books ON books.id = tunes.book LEFT JOIN losses ON losses.book = tunes.book AND losses.place = tunes.place "
+    "WHERE state IS NOT NULL ORDER BY books.name, tunes.place, kind",
+)
+JSON_LINES = "jsonl"
 
 
 def write_csv(file: IO[str], columns: Sequence[str], rows: Rows) -> None:
@@ -45,28 +55,27 @@ def write_lines(file: IO[str], columns: Sequence[str], rows: Rows) -> None:
         file.write(json.dumps(dict(zip(columns, row)), ensure_ascii=False) + "\n")
 
 
-FORMATS: dict[str, Callable[[IO[str], Sequence[str], Rows], None]] = {"csv": write_csv, "jsonl": write_lines}
+FORMATS: dict[str, Callable[[IO[str], Sequence[str], Rows], None]] = {"csv": write_csv, JSON_LINES: write_lines}
 
 
 def export(catalogue: Catalogue, folder: str, form: str) -> None:
     """Writes each table into a file of the folder. Raises OSError and BadCatalogue."""
     for table, (columns, question) in TABLES.items():
-        with replacing(os.path.join(folder, f"{table}.{form}")) as file:
+        with replacing_text(os.path.join(folder, f"{table}.{form}")) as file:
             FORMATS[form](file, columns.split(), catalogue.ask(question))
 
 
+def export_losses(catalogue: Catalogue, path: str) -> None:
+    """Writes what each tune does not have in its file: JSON lines if the path ends so, else CSV. Raises OSError and BadCatalogue."""
+    columns, question = LOSSES
+    with replacing_text(path) as file:
+        FORMATS[JSON_LINES if path.lower().endswith(f".{JSON_LINES}") else "csv"](file, columns.split(), catalogue.ask(question))
+
+
 @contextmanager
-def replacing(path: str) -> Iterator[IO[str]]:
+def replacing_text(path: str) -> Iterator[IO[str]]:
     """A new text file, which replaces the one at the path if it was written as a whole. Raises OSError."""
-    descriptor, new = tempfile.mkstemp(prefix=".archive.", dir=os.path.dirname(path) or ".")
-    try:
-        with open(descriptor, "w", encoding="utf-8", newline="") as file:
-            yield file
-        mask = os.umask(0)
-        os.umask(mask)
-        os.chmod(new, 0o666 & ~mask)
-        os.replace(new, path)
-    except BaseException:
-        with suppress(OSError):
-            os.unlink(new)
-        raise
+    with replacing(path) as file:
+        text = io.TextIOWrapper(file, encoding="utf-8", newline="")
+        yield text
+        text.detach()  # with all that was written

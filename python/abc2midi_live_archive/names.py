@@ -2,8 +2,8 @@
 
 from __future__ import annotations
 
-import os
 import re
+import unicodedata
 from collections.abc import Iterable
 
 UNSAFE = re.compile(r"[^\w .,'()+&@=-]")  # in a name that people type in a shell and a browser
@@ -15,26 +15,31 @@ OWN = frozenset(
 
 def stored(text: str) -> str:
     """Returns a text that a file and a database can hold: a byte that is no character becomes `\\xNN`."""
-    return os.fsencode(text).decode("utf-8", "backslashreplace")
+    return text.encode("utf-8", "surrogateescape").decode("utf-8", "backslashreplace")
 
 
 class Names:
     """Gives names to books: the wanted one, or that with a number if it is taken."""
 
     def __init__(self, taken: Iterable[str]):
-        self.taken = set(taken)
+        self.taken = {alike(name) for name in taken}
         self.last: dict[str, int] = {}  # the number that a name was given last
 
     def give(self, wanted: str) -> str:
         """Returns a name that was not taken, and takes it."""
         plain = plain_name(wanted)
-        name, number = plain, self.last.get(plain, 1)
-        while name.lower() in OWN or name in self.taken:
+        name, number = plain, self.last.get(alike(plain), 1)
+        while alike(name) in OWN or alike(name) in self.taken:
             number += 1
             name = f"{plain}-{number}"
-        self.last[plain] = number
-        self.taken.add(name)
+        self.last[alike(plain)] = number
+        self.taken.add(alike(name))
         return name
+
+
+def alike(name: str) -> str:
+    """Returns what two names have in common that are one on some file systems: capitals and accents do not count there."""
+    return unicodedata.normalize("NFC", unicodedata.normalize("NFC", name).casefold())
 
 
 def plain_name(wanted: str) -> str:

@@ -7,13 +7,14 @@ from collections.abc import Callable, Iterator, Sequence
 from itertools import groupby
 from typing import NamedTuple, Optional
 
-from .archive import Archive
+from .archive import Folder
 from .catalogue import Catalogue
+from .limits import Limits
 from .names import Names
 from .reading import read_file, read_members
 from .sources import Source, reason
 from .storing import has_files
-from .units import Backend, Unit
+from .units import WRITTEN, Backend, Numbering, Unit
 
 GONE = "it is not in the archive any more"
 NoteProblem = Callable[[str, str], None]  # of a book, by its name
@@ -26,6 +27,11 @@ class Manner(NamedTuple):
     with_hints: bool
     collects: bool
     options: str
+    limits: Limits
+    syncs: bool
+    with_losses: bool = False
+    numbering: Numbering = Numbering.NUMBER
+    reading: str = WRITTEN
 
 
 class Planned(NamedTuple):
@@ -35,9 +41,9 @@ class Planned(NamedTuple):
     name: str
 
 
-def plan_books(sources: Sequence[Source], archive: Archive, catalogue: Catalogue) -> list[Planned]:
+def plan_books(sources: Sequence[Source], folder: Folder, catalogue: Catalogue) -> list[Planned]:
     """Gives each source its name: that of earlier runs, or a new one. No name is taken that the folder has already."""
-    names = Names({*os.listdir(archive.path), *catalogue.names()})
+    names = Names({*folder.names(), *catalogue.names()})
     planned = {}
     for source in sources:
         if source.identity in planned:
@@ -54,8 +60,8 @@ def plan_books(sources: Sequence[Source], archive: Archive, catalogue: Catalogue
 class Planner:
     """Makes units. What cannot be read here is noted by `note_problem`."""
 
-    def __init__(self, archive: Archive, catalogue: Catalogue, manner: Manner, note_problem: NoteProblem):
-        self.archive, self.catalogue = archive, catalogue
+    def __init__(self, folder: Folder, catalogue: Catalogue, manner: Manner, note_problem: NoteProblem):
+        self.folder, self.catalogue = folder, catalogue
         self.manner, self.note_problem = manner, note_problem
 
     def units(self, planned: Sequence[Planned]) -> Iterator[Unit]:
@@ -73,7 +79,7 @@ class Planner:
     def units_of_file(self, book: Planned) -> Iterator[Unit]:
         """Yields the unit of a file, if it can be read or need not be read here."""
         try:
-            data = read_file(book.source.path) if self.manner.collects else None
+            data = read_file(book.source.path, book.source.follows) if self.manner.collects else None
         except OSError as error:
             self.note_problem(book.name, reason(error))
             return
@@ -98,11 +104,11 @@ class Planner:
         """Returns a unit."""
         known = self.catalogue.find(book.source)
         assert known, "each book is in the catalogue"
-        folder = self.archive.inside(book.name)
-        digest, numbers = None, frozenset[int]()
+        folder = self.folder.inside(book.name)
+        digest, sizes = None, dict[int, int]()
         if known.digest and known.options == self.manner.options:
-            numbers = frozenset(self.catalogue.files_of(known.id))
-            digest = known.digest if not self.manner.collects or has_files(folder, numbers) else None
+            sizes = self.catalogue.sizes_of(known.id)
+            digest = known.digest if not self.manner.collects or has_files(folder, sizes) else None
         return Unit(
             book=book.name,
             path=os.path.abspath(book.source.path),
@@ -111,5 +117,11 @@ class Planner:
             backend=self.manner.backend,
             with_hints=self.manner.with_hints,
             known_digest=digest,
-            known_numbers=numbers,
+            known_sizes=sizes,
+            limits=self.manner.limits,
+            follows=book.source.follows,
+            syncs=self.manner.syncs,
+            with_losses=self.manner.with_losses,
+            numbering=self.manner.numbering,
+            reading=self.manner.reading,
         )

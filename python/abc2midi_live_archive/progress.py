@@ -8,6 +8,8 @@ import time
 from abc import ABC, abstractmethod
 from typing import Any, Optional, TextIO
 
+from abc2midi_live_clients.common.clock import clock
+
 SECONDS_BETWEEN_LINES = 10.0
 SECONDS_IN_A_TERMINAL = 2.0
 
@@ -74,13 +76,6 @@ def line(books: int, total: int, tunes: int, seconds: float) -> str:
     """Returns how far a run is, how fast, and how long it will take."""
     left = seconds / books * (total - books)
     return f"{books} of {total} books, {tunes} tunes, {tunes / max(seconds, 0.001):.0f} tunes a second, about {clock(left)} left"
-
-
-def clock(seconds: float) -> str:
-    """Returns a time as `1:05`, or `2:01:05`."""
-    minutes, rest = divmod(round(seconds), 60)
-    hours, minutes = divmod(minutes, 60)
-    return f"{hours}:{minutes:02}:{rest:02}" if hours else f"{minutes}:{rest:02}"
 
 
 def start_progress(total: int) -> Progress:

@@ -3,20 +3,17 @@
 from __future__ import annotations
 
 import errno
-import lzma
-import os
-import stat
 import tarfile
 import zipfile
-import zlib
 from collections.abc import Iterator
-from typing import IO, NamedTuple, Union
+from typing import IO, NamedTuple, Optional, Union
 
 from abc2midi_live.lines import MOST_BOOK_BYTES
+from abc2midi_live_clients.common.regular_file import open_regular
 
-OPENING = os.O_RDONLY | os.O_NONBLOCK | os.O_NOCTTY | os.O_CLOEXEC  # never waits
 TAR_ENDINGS = (".tar", ".tar.gz", ".tgz", ".tar.bz2", ".tbz2", ".tar.xz", ".txz")
-BROKEN = (OSError, EOFError, RuntimeError, NotImplementedError, zipfile.BadZipFile, tarfile.TarError, zlib.error, lzma.LZMAError)
+NOTES = frozenset((tarfile.GNUTYPE_LONGNAME, tarfile.GNUTYPE_LONGLINK, tarfile.XHDTYPE, tarfile.XGLTYPE, tarfile.SOLARIS_XHDTYPE))
+MOST_NOTE = 1 << 20  # bytes of an entry of a tar archive that has the name of another one
 
 
 class NotABook(OSError):
@@ -30,29 +27,33 @@ class Member(NamedTuple):
     data: Union[bytes, OSError]
 
 
-def read_file(path: str) -> bytes:
-    """Returns the bytes of a regular file. Raises OSError."""
-    descriptor = os.open(path, OPENING)
-    with os.fdopen(descriptor, "rb") as file:
-        found = os.fstat(descriptor)
-        if stat.S_ISDIR(found.st_mode):
-            raise IsADirectoryError(errno.EISDIR, os.strerror(errno.EISDIR), path)
-        if not stat.S_ISREG(found.st_mode):
-            raise NotABook(errno.EINVAL, "it is not a regular file", path)
+def read_file(path: str, follows: bool = True) -> bytes:
+    """Returns the bytes of a regular file. One that is a symbolic link is read if it `follows`. Raises OSError."""
+    with open_regular(path, follows) as file:
         return read_some(file, path)
 
 
 def read_some(file: IO[bytes], name: str) -> bytes:
     """Returns the bytes of an open file, if they are not too many for a book."""
     data = file.read(MOST_BOOK_BYTES + 1)
-    if len(data) > MOST_BOOK_BYTES:
-        raise NotABook(errno.EFBIG, f"it has more than {MOST_BOOK_BYTES >> 20} MB", name)
+    refuse_large(len(data), name)
     return data
+
+
+def refuse_large(size: int, name: str) -> None:
+    """Raises NotABook if a file has more bytes than a book has."""
+    if size > MOST_BOOK_BYTES:
+        raise NotABook(errno.EFBIG, f"it has more than {MOST_BOOK_BYTES >> 20} MB", name)
 
 
 def is_book(name: str) -> bool:
     """Returns whether a file of a folder or an archive is a book, by its name."""
     return name.lower().endswith(".abc")
+
+
+def is_archive(path: str) -> bool:
+    """Returns whether a source is an archive, by its name."""
+    return is_zip(path) or is_tar(path)
 
 
 def is_zip(path: str) -> bool:
@@ -66,14 +67,14 @@ def is_tar(path: str) -> bool:
 
 
 def member_names(path: str) -> list[str]:
-    """Returns the names of the books in an archive, in its order. Raises OSError."""
+    """Returns the names of the files in an archive, in its order. Raises OSError."""
     try:
         if is_zip(path):
             with zipfile.ZipFile(path) as archive:
-                return [entry.filename for entry in archive.infolist() if is_book(entry.filename)]
-        with tarfile.open(path) as tar:
-            return [entry.name for entry in tar if entry.isreg() and is_book(entry.name)]
-    except BROKEN as error:
+                return archive.namelist()
+        with tarfile.open(path, tarinfo=Entry) as tar:
+            return [entry.name for entry in files_of_tar(tar)]
+    except Exception as error:  # the libraries raise many kinds for what is broken, also ValueError and OverflowError
         raise as_os_error(error, path) from error
 
 
@@ -81,7 +82,7 @@ def read_members(path: str) -> Iterator[Member]:
     """Yields the books of an archive, in its order: a tar archive can only be read from its start on. Raises OSError."""
     try:
         yield from read_zip(path) if is_zip(path) else read_tar(path)
-    except BROKEN as error:
+    except Exception as error:
         raise as_os_error(error, path) from error
 
 
@@ -90,29 +91,57 @@ def read_zip(path: str) -> Iterator[Member]:
     with zipfile.ZipFile(path) as archive:
         for entry in archive.infolist():
             if is_book(entry.filename):
-                data: Union[bytes, OSError]
-                try:
-                    with archive.open(entry) as file:
-                        data = read_some(file, entry.filename)
-                except BROKEN as error:
-                    data = as_os_error(error, entry.filename)
-                yield Member(entry.filename, data)
+                yield Member(entry.filename, read_entry(archive, entry))
+
+
+def read_entry(archive: zipfile.ZipFile, entry: zipfile.ZipInfo) -> Union[bytes, OSError]:
+    """Returns the bytes of an entry of a zip archive, or why it has none."""
+    try:
+        refuse_large(entry.file_size, entry.filename)
+        with archive.open(entry) as file:
+            return read_some(file, entry.filename)
+    except Exception as error:
+        return as_os_error(error, entry.filename)
 
 
 def read_tar(path: str) -> Iterator[Member]:
     """Yields the books of a tar archive. After a broken one there are no more."""
-    with tarfile.open(path) as archive:
-        for entry in archive:
-            if not (entry.isreg() and is_book(entry.name)):
+    with tarfile.open(path, tarinfo=Entry) as archive:
+        for entry in files_of_tar(archive):
+            if not is_book(entry.name):
                 continue
             data: Union[bytes, OSError]
             try:
+                refuse_large(entry.size, entry.name)
                 file = archive.extractfile(entry)
                 assert file, "a regular file has bytes"
                 data = read_some(file, entry.name)
             except NotABook as error:
                 data = error
             yield Member(entry.name, data)
+
+
+class Entry(tarfile.TarInfo):
+    """An entry of a tar archive. One whose size cannot be is refused: some versions of `tarfile` read such an archive for ever, or
+    all of it into memory."""
+
+    @classmethod
+    def frombuf(cls, buf: Union[bytes, bytearray], encoding: Optional[str], errors: str) -> Entry:
+        entry = super().frombuf(buf, encoding, errors)  # type: ignore[arg-type]
+        if entry.size < 0 or entry.type in NOTES and entry.size > MOST_NOTE:
+            raise tarfile.ReadError("an entry has a size that cannot be")
+        return entry
+
+
+def files_of_tar(archive: tarfile.TarFile) -> Iterator[tarfile.TarInfo]:
+    """Yields the entries of the files in a tar archive. What is between them is skipped, without being read if it is not compressed."""
+    last = -1
+    for entry in archive:
+        if entry.size < 0 or entry.offset <= last:  # a note may say this of the next entry
+            raise tarfile.ReadError("an entry has a size that cannot be")
+        last = entry.offset
+        if entry.isreg():
+            yield entry
 
 
 def as_os_error(error: BaseException, name: str) -> OSError:

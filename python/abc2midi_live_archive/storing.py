@@ -1,93 +1,115 @@
-"""Stores the MIDI files of a book in its folder: each is complete or not there, and one that has its bytes already stays."""
+"""Stores the MIDI files of a book in its folder: each is complete or not there, and one that has its bytes already stays.
+
+The folder is opened once, and not if a symbolic link is in its place. All that follows is done in what was opened, and no link in it
+is followed. So no file outside the archive is read, written or removed."""
 
 from __future__ import annotations
 
+import errno
 import os
 import re
+import stat
 import uuid
-from collections.abc import Mapping
-from contextlib import suppress
+from collections.abc import Iterable, Iterator, Mapping
+from contextlib import contextmanager, suppress
 from typing import Optional
+
+from abc2midi_live_clients.common.regular_file import open_regular
+from abc2midi_live_clients.common.replaced_file import replacing
+
+from .disks import sync_file_system
 
 MIDI_NAME = re.compile(r"(0|[1-9][0-9]{0,8})\.mid")
 HALF_NAME = re.compile(r"\.(0|[1-9][0-9]{0,8})\.mid\.[0-9a-f]{8}\.new")
-CREATING = os.O_WRONLY | os.O_CREAT | os.O_EXCL | os.O_CLOEXEC
+OPENING = os.O_RDONLY | os.O_NOFOLLOW | os.O_DIRECTORY | os.O_CLOEXEC
 
 
-def store_files(folder: str, files: Mapping[int, bytes]) -> None:
-    """Makes a folder have these files and no others of their form. Raises OSError; then the folder has some of them."""
-    present = names_in(folder)
-    if present is None:
-        if not files:
+@contextmanager
+def open_folder(path: str) -> Iterator[Optional[int]]:
+    """The descriptor of a folder, or None if there is no folder. Raises OSError."""
+    try:
+        folder = os.open(path, OPENING)
+    except FileNotFoundError:
+        yield None
+        return
+    except OSError:
+        if os.path.islink(path):
+            raise OSError(errno.ELOOP, "its folder is a symbolic link", path) from None
+        raise
+    try:
+        yield folder
+    finally:
+        os.close(folder)
+
+
+def store_files(path: str, files: Mapping[int, bytes], syncs: bool = False) -> None:
+    """Makes a folder have these files and no others of their form, on its disk if it `syncs`. Raises OSError; then the folder has some
+    of them."""
+    if files:
+        with suppress(FileExistsError):
+            os.mkdir(path)
+    with open_folder(path) as folder:
+        if folder is None:
             return
-        os.makedirs(folder, exist_ok=True)
-        present = set()
-    remove_halves(folder, present)
+        present = set(os.listdir(folder))
+        remove_names(folder, filter(HALF_NAME.fullmatch, present))
+        write_files(folder, present, files)
+        remove_names(folder, others(present, files))
+        if syncs:
+            sync_file_system(folder)
+
+
+def write_files(folder: int, present: set[str], files: Mapping[int, bytes]) -> None:
+    """Writes those files that a folder does not have with their bytes."""
     mark = uuid.uuid4().hex[:8]
     for number, data in files.items():
         name = f"{number}.mid"
-        if name in present and has_bytes(f"{folder}/{name}", data):
-            continue
-        replace_file(f"{folder}/{name}", f"{folder}/.{name}.{mark}.new", data)
-    remove_others(folder, present, files)
+        if name not in present or not has_bytes(folder, name, data):
+            with replacing(name, f".{name}.{mark}.new", folder=folder) as file:
+                file.write(data)
 
 
-def remove_others(folder: str, present: set[str], files: Mapping[int, bytes]) -> None:
-    """Removes the MIDI files of a folder that are none of these."""
+def others(present: set[str], files: Mapping[int, bytes]) -> Iterator[str]:
+    """Yields the names of MIDI files that are none of these."""
     for name in present:
         own = MIDI_NAME.fullmatch(name)
         if own and int(own[1]) not in files:
-            remove(os.path.join(folder, name))
+            yield name
 
 
-def replace_file(path: str, new: str, data: bytes) -> None:
-    """Writes a file under another name, which then replaces it."""
+def has_bytes(folder: int, name: str, data: bytes) -> bool:
+    """Returns whether a file has these bytes."""
     try:
-        descriptor = os.open(new, CREATING, 0o666)
-        try:
-            while data:
-                data = data[os.write(descriptor, data) :]
-        finally:
-            os.close(descriptor)
-        os.rename(new, path)
-    except BaseException:
-        with suppress(OSError):
-            os.unlink(new)
-        raise
-
-
-def has_bytes(path: str, data: bytes) -> bool:
-    """Returns whether a file is there and has these bytes."""
-    try:
-        with open(path, "rb") as file:
+        with open_regular(name, follows=False, folder=folder) as file:
             return file.read(len(data) + 1) == data
     except OSError:
         return False
 
 
-def has_files(folder: str, numbers: frozenset[int]) -> bool:
-    """Returns whether a folder has the files of these numbers."""
-    names = names_in(folder) or set()
-    return all(f"{number}.mid" in names for number in numbers)
+def has_files(path: str, sizes: Mapping[int, int]) -> bool:
+    """Returns whether a folder has files of these numbers, with these sizes. Raises OSError."""
+    with open_folder(path) as folder:
+        return not sizes or folder is not None and all(size_of_file(folder, f"{number}.mid") == size for number, size in sizes.items())
 
 
-def names_in(folder: str) -> Optional[set[str]]:
-    """Returns the names in a folder, or None if there is no folder. Raises OSError."""
+def size_of_file(folder: int, name: str) -> Optional[int]:
+    """Returns the size of a regular file, or None if there is none."""
     try:
-        return set(os.listdir(folder))
-    except FileNotFoundError:
+        found = os.stat(name, dir_fd=folder, follow_symlinks=False)
+    except OSError:
         return None
+    return found.st_size if stat.S_ISREG(found.st_mode) else None
 
 
-def remove_halves(folder: str, present: Optional[set[str]] = None) -> None:
+def remove_halves(path: str) -> None:
     """Removes the files that a killed worker wrote by half."""
-    names = names_in(folder) if present is None else present
-    for name in names or ():
-        if HALF_NAME.fullmatch(name):
-            remove(os.path.join(folder, name))
+    with open_folder(path) as folder:
+        if folder is not None:
+            remove_names(folder, filter(HALF_NAME.fullmatch, os.listdir(folder)))
 
 
-def remove(path: str) -> None:
-    """Removes a file that may be gone already."""
-    with suppress(FileNotFoundError):
-        os.unlink(path)
+def remove_names(folder: int, names: Iterable[str]) -> None:
+    """Removes files that may be gone already."""
+    for name in names:
+        with suppress(FileNotFoundError):
+            os.unlink(name, dir_fd=folder)

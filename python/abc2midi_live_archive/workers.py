@@ -9,6 +9,7 @@ from typing import NamedTuple
 from .units import Outcome, Result, Unit
 
 MOST_DEATHS = 3  # of workers over one unit that is alone
+MOST_BYTES_AHEAD = 1 << 28  # of books that were read here and are not done
 DIED = "each worker that compiled it died; it may be out of memory"
 
 
@@ -28,6 +29,11 @@ class Workers(ABC):
     @abstractmethod
     def do(self, units: Iterator[Unit]) -> Iterator[Done]:
         """Yields units as they are done, in any order, and takes more only as fast as they are."""
+
+    def has_room(self, most: int) -> bool:
+        """Returns whether the workers can have one more unit, of `most` at once, if the books of those that they have are few bytes."""
+        size = sum(len(unit.data or b"") for unit in self.under_way.values())
+        return len(self.under_way) < most and size < MOST_BYTES_AHEAD
 
     @abstractmethod
     def stop(self) -> None:

@@ -8,12 +8,12 @@ import io
 import json
 import os
 import re
+import shutil
 import tarfile
 import zipfile
 from pathlib import Path
 
 import setting
-import trial
 
 EXAMPLES = sorted((setting.TOP / "examples").glob("*.abc"))
 TUNE = b"X:%d\nT:%b\nM:3/4\nK:D\nCDE|\n\n"
@@ -56,14 +56,14 @@ class Books(setting.Runs):
         self.run_archive(self.folder / "airs.abc")
         file = (self.to / "airs/7.mid").read_bytes()
         digest = hashlib.sha256(file).hexdigest()
-        tunes = self.rows("SELECT number, title, line, key, meter, size, sha256, ticks, notes FROM tunes ORDER BY line")
-        self.assertEqual(tunes[0], (7, "Äir", 1, "D", "3/4", len(file), digest, 720, 3))
-        self.assertEqual(tunes[1], (7, "Café", 7, None, None, None, None, None, None))
-        self.assertEqual((*tunes[2][:5], *tunes[2][7:]), (2, "", 13, "Am", None, 240, 1))
+        tunes = self.rows("SELECT number, title, line, file, key, meter, size, sha256, ticks, notes FROM tunes ORDER BY line")
+        self.assertEqual(tunes[0], (7, "Äir", 1, "airs/7.mid", "D", "3/4", len(file), digest, 720, 3))
+        self.assertEqual(tunes[1], (7, "Café", 7, None, None, None, None, None, None, None))
+        self.assertEqual((*tunes[2][:6], *tunes[2][8:]), (2, "", 13, "airs/2.mid", "Am", None, 240, 1))
         remarks = self.rows("SELECT kind, line, column, name, excerpt FROM remarks ORDER BY line, column")
         self.assertEqual(remarks, [("fault", 15, 2, "BadByte", "C&|["), ("fault", 15, 4, "Unclosed", "C&|[")])
-        wanted = ("airs", str(self.folder / "airs.abc"), 15, 1, 3, 2, 2, 0, None)
-        asked = "SELECT name, source, lines, parts, tunes, files, faults, hints, problem FROM books"
+        wanted = ("airs", str(self.folder / "airs.abc"), 15, 1, 3, 2, 2, 0, 1, None)
+        asked = "SELECT name, source, lines, parts, tunes, files, faults, hints, hidden, problem FROM books"
         self.assertEqual(self.rows(asked), [wanted])
         self.assertEqual(self.rows("SELECT count(*) FROM meanings WHERE name IN ('BadByte', 'Unclosed')"), [(2,)])
 
@@ -87,31 +87,49 @@ class Books(setting.Runs):
         self.assertEqual((objects[0]["book"], objects[0]["line"], objects[0]["name"]), ("airs", 9, "BadByte"))
 
     def test_the_report(self) -> None:
-        self.write("airs.abc", TUNE % (1, b"<Air>") + TUNE % (2, b"Two") + b"X:3\nK:Bm\n<&|\n")
+        self.write("airs.abc", TUNE % (1, b"<Air>") + TUNE % (2, b"Two") + b"X:3\nC:Ann <Ann>\nR:Jig\nK:Bm\n<&|\n")
         page = self.folder / "report.html"
         self.run_archive(self.folder / "airs.abc", self.folder / "gone.abc", "--report", page, status=1)
         text = page.read_text("utf-8")
         for wanted in (
             "<dt>books</dt><dd>2</dd>",
             "<dt>tunes</dt><dd>3</dd>",
-            "<title>D: 2</title>",
-            "<title>Bm: 1</title>",
-            "<title>3/4: 2</title>",
-            "<title>free: 1</title>",
-            '<a href="#fault-BadByte"><title>BadByte: 1 in 1 book</title>',
-            f'<a href="file://{self.folder}/airs.abc#L15">airs:15:2</a></td><td><code>&lt;<mark>&amp;</mark>|</code>',
-            "<td>cannot be read: No such file or directory</td>",
+            'title="jig: 1"',
+            'title="D major: 2"',
+            'title="B minor: 1"',
+            'title="3/4: 2"',
+            'title="free: 1"',
+            'title="Ann &lt;Ann&gt;: 1"',
+            'title="0 s to 15 s: 3"',
+            "1 piece of music that several tunes have, 2 in all",
+            "<li>&lt;Air&gt; <span class='soft'>airs:1</span>; Two <span class='soft'>airs:7</span></li>",
+            '<a class="row" href="#fault-BadByte" title="BadByte: 1 in 1 book">',
+            f'<a href="file://{self.folder}/airs.abc#L17">airs:17:2</a> <code>&lt;<mark>&amp;</mark>|</code>',
+            "<span>cannot be read: No such file or directory</span>",
         ):
             self.assertIn(wanted, text)
+        for unwanted in ("Since the run of", "What sounds", "<Air>"):
+            self.assertNotIn(unwanted, text)
         ran = self.run_archive(self.folder / "airs.abc", "--report", self.folder / "no/such.html", status=1)
         self.assertIn("No such file", ran.err)
         self.assertIn("1 as before", ran.out)
 
+    def test_the_report_has_what_grew_since_the_last_run(self) -> None:
+        page, book = self.folder / "report.html", self.write("in/airs.abc", TUNE % (1, b"One"))
+        self.run_archive(book)
+        self.write("in/more.abc", TUNE % (1, b"Two") + TUNE % (2, b"Three") + b"X:3\nK:C\n&\n")
+        self.run_archive(self.folder / "in", "--report", page)
+        grown = r"Since the run of \d{4}-\d\d-\d\d \d\d:\d\d UTC: \+1 books, \+3 tunes, \+3 MIDI files, \+1 faults\."
+        self.assertRegex(page.read_text("utf-8"), grown)
+        self.run_archive(self.folder / "in", "--report", page)
+        self.assertIn("+0 books, +0 tunes, +0 MIDI files, +0 faults", page.read_text("utf-8"))
+
     def test_a_folder_without_books(self) -> None:
         self.write("in/reels.txt", TUNE % (1, b"One"))
-        ran = self.run_archive(self.folder / "in")
-        self.assertEqual(ran.err, "archive: there is no book: in folders and archives the names of books end in .abc\n")
+        ran = self.run_archive(self.folder / "in", status=1)
+        self.assertEqual(ran.err, f"{self.folder}/in: has no book: in folders and archives the names of books end in .abc\n")
         self.assertIn("0 books compiled", ran.out)
+        self.assertEqual(self.run_archive("-", status=1).err, "archive: there is no book\n")
 
     def test_bad_books_leave_the_others(self) -> None:
         good = setting.random_book(1)
@@ -123,7 +141,7 @@ class Books(setting.Runs):
         os.mkfifo(self.folder / "in/pipe.abc")
         self.write("broken.zip", b"no archive")
         ran = self.run_archive(self.folder / "in", self.folder / "gone.abc", self.folder / "broken.zip", status=1)
-        lines = [line for line in ran.err.splitlines() if " books, " not in line]  # a slow run prints how far it is
+        lines = setting.without_progress(ran.err.encode()).decode().splitlines()
         problems = {Path(line.split(":")[0]).name for line in lines}
         self.assertEqual(problems, {"pipe.abc", "gone.abc", "broken.zip"}, ran.err)
         self.assertIn("5 books compiled", ran.out)
@@ -131,7 +149,7 @@ class Books(setting.Runs):
         where = "SELECT name, line, column FROM remarks WHERE name = 'BadLine'"
         self.assertEqual(self.rows(where), [("BadLine", 4, 65_536)])
         books["long_line"] = long_line.replace(b"C" * 65_536, b"%")
-        wanted = {f"{name}/{file}": data for name, book in books.items() for file, data in trial.fresh(book, trial.oracle).files.items()}
+        wanted = {f"{name}/{file}": data for name, book in books.items() for file, data in setting.fresh(book).files.items()}
         self.assertEqual(setting.tree(self.to), wanted)
         self.assertEqual(self.rows("SELECT problem FROM books WHERE name = 'gone'"), [("cannot be read: No such file or directory",)])
         self.write("gone.abc", good)
@@ -155,6 +173,38 @@ class Books(setting.Runs):
         self.assertEqual(len(third.out.splitlines()), 1)
         self.assertIn("1 book compiled", third.out)
         self.assert_as_fresh({"airs": book.read_bytes(), "other": other.read_bytes()})
+
+    def test_a_file_of_another_size_is_written_again(self) -> None:
+        """As one that lost its bytes when the power failed."""
+        book = self.write("airs.abc", TUNE % (1, b"One") + TUNE % (2, b"Two"))
+        self.run_archive(book)
+        (self.to / "airs/1.mid").write_bytes(b"")
+        self.assertIn("1 book compiled", self.run_archive(book).out)
+        self.assert_as_fresh({"airs": book.read_bytes()})
+        (self.to / "airs/2.mid").rename(self.folder / "outside")
+        (self.to / "airs/2.mid").symlink_to(self.folder / "outside")
+        self.assertIn("1 book compiled", self.run_archive(book).out)
+        self.assertFalse((self.to / "airs/2.mid").is_symlink())
+        self.assert_as_fresh({"airs": book.read_bytes()})
+
+    def test_a_link_in_the_place_of_a_folder_is_refused(self) -> None:
+        """What is outside is neither written nor removed."""
+        book = self.write("airs.abc", TUNE % (1, b"One"))
+        self.run_archive(book)
+        shutil.rmtree(self.to / "airs")
+        self.write("outside/9.mid", b"mine")
+        (self.to / "airs").symlink_to(self.folder / "outside")
+        choices: tuple[list[str], ...] = ([], ["--hints"])
+        for words in choices:
+            ran = self.run_archive(book, *words, status=1)
+            self.assertIn("airs.abc: cannot be written: its folder is a symbolic link", ran.err)
+        self.assertEqual(setting.tree(self.folder / "outside"), {"9.mid": b"mine"})
+
+    def test_a_link_in_the_place_of_the_catalogue_is_refused(self) -> None:
+        self.to.mkdir()
+        (self.to / "catalogue.sqlite").symlink_to(self.folder / "outside")
+        self.assertIn("catalogue.sqlite is a symbolic link", self.run_archive(EXAMPLES[0], status=1).err)
+        self.assertFalse((self.folder / "outside").exists())
 
     def test_files_of_others_stay(self) -> None:
         self.write("to/airs/9.mid", b"mine")

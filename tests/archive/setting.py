@@ -4,6 +4,7 @@ from __future__ import annotations
 
 import os
 import random
+import re
 import signal
 import sqlite3
 import subprocess
@@ -11,18 +12,21 @@ import sys
 import tempfile
 import unittest
 from collections.abc import Iterator, Sequence
+from contextlib import suppress
+from functools import cache
 from pathlib import Path
 from typing import Any, NamedTuple, Optional
 
 TOP = Path(__file__).resolve().parent.parent.parent
 COMMAND = TOP / "clients/archive"
 SECONDS = 1800  # that a run may take: it ends those that hang, and a machine with much other work takes ten times as long as a quiet one
-sys.path[:0] = [str(TOP / "python"), str(TOP / "tests/clients")]
+sys.path[:0] = [str(TOP / "python"), str(TOP / "tests/clients/shared")]
 import trial  # noqa: E402
 
 program: Optional[str] = None
 library: Optional[str] = None
 books, seed = 1_000, 1
+kills, archives = 3, 300  # how often workers and runs are killed, and how many archives are broken by chance
 
 
 class Ran(NamedTuple):
@@ -33,12 +37,19 @@ class Ran(NamedTuple):
     err: str
 
 
+@cache
 def random_book(number: int) -> bytes:
     """A random book: tunes, some of one number, and perhaps a file header and free text; the same one for the same number."""
     chance = random.Random(f"{seed}/{number}")
     opening = [trial.random_line(chance) for _ in range(chance.choice([0, 0, 2, 6]))]
     tunes = [line for _ in range(chance.randrange(1, 6)) for line in trial.random_tune(chance, chance.randrange(1, 8))]
     return "\n".join([*opening, *tunes, ""]).encode(chance.choice(["utf-8", "latin-1"]), "replace")
+
+
+@cache
+def fresh(book: bytes) -> trial.Fresh:
+    """What the program makes of a book. Many tests have the same ones."""
+    return trial.fresh(book, trial.oracle)
 
 
 def tree(folder: Path) -> dict[str, bytes]:
@@ -51,6 +62,11 @@ def stamp(path: Path) -> tuple[int, int]:
     """What changes when a file is written or replaced."""
     found = path.stat()
     return found.st_ino, found.st_mtime_ns
+
+
+def without_progress(err: bytes) -> bytes:
+    """Standard error of a run without the lines on how far it is, which a slow run prints."""
+    return re.sub(rb"(?m)^\d+ of \d+ books, .*\n", b"", err)
 
 
 class Room(unittest.TestCase):
@@ -113,9 +129,9 @@ class Runs(Room):
         """Compares the archive with what the program makes of each of its books, by their names: files and faults."""
         wanted_files, wanted_faults = {}, []
         for name, book in books.items():
-            fresh = trial.fresh(book, trial.oracle)
-            wanted_files.update({f"{name}/{file}": data for file, data in fresh.files.items()})
-            wanted_faults += [(name, *fault) for fault in fresh.faults]
+            made = fresh(book)
+            wanted_files.update({f"{name}/{file}": data for file, data in made.files.items()})
+            wanted_faults += [(name, *fault) for fault in made.faults]
         self.assertEqual(tree(self.to), wanted_files)
         question = "SELECT books.name, line, column, remarks.name FROM remarks JOIN books ON books.id = book WHERE kind = 'fault'"
         self.assertEqual(sorted(self.rows(question)), sorted(wanted_faults))
@@ -130,14 +146,12 @@ def end_group(process: "subprocess.Popen[bytes]") -> None:
 
 
 def children_of(process: int) -> Iterator[int]:
-    """The processes that a process started and that still run."""
-    for name in Path("/proc").glob("[0-9]*"):
-        try:
-            state, parent = (name / "stat").read_text("latin-1").rpartition(")")[2].split()[:2]
-        except OSError:
-            continue
-        if int(parent) == process and state != "Z":
-            yield int(name.name)
+    """The processes that the threads of a process started and that still run."""
+    for file in Path(f"/proc/{process}/task").glob("*/children"):
+        with suppress(OSError):
+            for child in file.read_text("ascii").split():
+                if Path(f"/proc/{child}/stat").read_text("latin-1").rpartition(")")[2].split()[0] != "Z":
+                    yield int(child)
 
 
 def workers_of(process: int) -> Sequence[int]:
@@ -148,6 +162,6 @@ def workers_of(process: int) -> Sequence[int]:
             words = Path(f"/proc/{child}/cmdline").read_bytes()
         except OSError:
             continue
-        if b"spawn_main" in words:
+        if b"archive.worker_main" in words:
             found.append(child)
     return found

@@ -6,6 +6,7 @@ import csv
 import io
 import itertools
 import os
+import resource
 import signal
 import sqlite3
 import stat
@@ -15,9 +16,7 @@ import time
 import unittest
 import zipfile
 from collections.abc import Callable, Iterator
-from concurrent.futures import Future
-from concurrent.futures.process import BrokenProcessPool
-from contextlib import closing, nullcontext
+from contextlib import AbstractContextManager, closing, nullcontext
 from pathlib import Path
 from typing import Any, Optional
 from unittest import mock
@@ -25,16 +24,23 @@ from unittest import mock
 import setting
 from abc2midi_live_archive import pool, reading, storing
 from abc2midi_live_archive.allocator import choose_allocator
-from abc2midi_live_archive.catalogue import BadCatalogue, Catalogue
+from abc2midi_live_archive.archive import Archive
+from abc2midi_live_archive.catalogue import SECONDS_BETWEEN_COMMITS, BadCatalogue, Catalogue
 from abc2midi_live_archive.compiling import excerpt
 from abc2midi_live_archive.cutting import Part, cut_book
 from abc2midi_live_archive.exports import export
-from abc2midi_live_archive.music import Facts, facts_of
+from abc2midi_live_archive.limits import Limits
 from abc2midi_live_archive.names import MOST_CHARACTERS, Names
-from abc2midi_live_archive.progress import clock, line
+from abc2midi_live_archive.planning import Manner, Planner, plan_books
+from abc2midi_live_archive.progress import line
 from abc2midi_live_archive.reading import Member, read_file, read_members
-from abc2midi_live_archive.sources import BadSource, Source, find_books
+from abc2midi_live_archive.run import Run
+from abc2midi_live_archive.sources import BadSource, Source, Trouble, find_books
 from abc2midi_live_archive.units import Backend, Outcome, Remark, Result, TuneRow, Unit
+from abc2midi_live_archive.workers import Done, Workers
+from abc2midi_live_clients.common.clock import clock
+
+SIGNALS = (signal.SIGINT, signal.SIGTERM, signal.SIGHUP)  # that end a run
 
 
 class Sources(setting.Room):
@@ -57,6 +63,34 @@ class Sources(setting.Room):
     def test_a_file_is_a_book_whatever_its_name_is(self) -> None:
         self.write("reels.txt", b"")
         self.assertEqual(self.found(self.folder / "reels.txt"), [("reels.txt", None, "reels.txt")])
+
+    def test_links_in_folders_are_refused_unless_they_are_to_be_followed(self) -> None:
+        self.write("outside/b/secret.abc", b"")
+        self.write("in/a.abc", b"")
+        (self.folder / "in/x.abc").symlink_to(self.folder / "outside/b/secret.abc")
+        (self.folder / "in/link").symlink_to(self.folder / "outside")
+        (self.folder / "outside/back").symlink_to(self.folder / "in")
+        found = list(find_books([str(self.folder / "in")], []))
+        self.assertEqual([(os.path.relpath(book.path, self.folder), book.follows) for book in found if isinstance(book, Source)], [("in/a.abc", False)])
+        bad = {os.path.relpath(book.name, self.folder): (book.trouble, book.why) for book in found if isinstance(book, BadSource)}
+        link = "it is a symbolic link; --follow-links follows it"
+        folder = "a symbolic link to a folder; --follow-links follows it"
+        self.assertEqual(bad, {"in/x.abc": (Trouble.UNREADABLE, link), "in/link": (Trouble.SKIPPED, folder)})
+        followed = [os.path.relpath(book.path, self.folder) for book in find_books([str(self.folder / "in")], [], True) if isinstance(book, Source)]
+        self.assertEqual(followed, ["in/a.abc", "in/x.abc", "in/link/b/secret.abc"])
+        self.assertEqual(self.found(self.folder / "in/x.abc"), [("in/x.abc", None, "x")])
+        self.assertEqual(read_file(str(self.folder / "in/x.abc")), b"")
+        with self.assertRaisesRegex(OSError, "it is a symbolic link"):
+            read_file(str(self.folder / "in/x.abc"), follows=False)
+
+    def test_archives_in_archives_and_folders_are_named(self) -> None:
+        self.write("in/a.abc", b"")
+        self.write("in/b.tar.gz", b"")
+        with zipfile.ZipFile(self.folder / "c.zip", "w") as archive:
+            archive.writestr("d/e.zip", b"")
+        found = list(find_books([str(self.folder / "in"), str(self.folder / "c.zip")], []))
+        bad = [(os.path.relpath(book.name, self.folder), book.trouble) for book in found if isinstance(book, BadSource)]
+        self.assertEqual(bad, [("in/b.tar.gz", Trouble.SKIPPED), ("c.zip:d/e.zip", Trouble.SKIPPED), ("c.zip", Trouble.EMPTY)])
 
     def test_names_come_from_standard_input(self) -> None:
         self.write("a.abc", b"")
@@ -106,7 +140,7 @@ class Sources(setting.Room):
 
     def test_what_is_no_book_is_not_read(self) -> None:
         os.mkfifo(self.folder / "pipe.abc")
-        for name, why in (("pipe.abc", "not a regular file"), (".", "Is a directory"), ("gone.abc", "No such file")):
+        for name, why in (("pipe.abc", "not a regular file"), (".", "it is a folder"), ("gone.abc", "No such file")):
             with self.subTest(name), self.assertRaisesRegex(OSError, why):
                 read_file(str(self.folder / name))
         self.write("big.abc", b"123456")
@@ -124,6 +158,11 @@ class TheNames(unittest.TestCase):
         names = Names({"jigs"})
         self.assertEqual([names.give(name) for name in ("reels", "reels", "jigs", "reels-2", "reels")], ["reels", "reels-2", "jigs-2", "reels-2-2", "reels-3"])
 
+    def test_no_two_are_alike_where_capitals_or_accents_do_not_count(self) -> None:
+        names = Names({"Jigs", "cafe\u0301"})
+        given = [names.give(name) for name in ("Reels", "reels", "REELS", "jigs", "caf\u00e9", "STRASSE", "stra\u00dfe", "Catalogue.SQLite")]
+        self.assertEqual(given, ["Reels", "reels-2", "REELS-3", "jigs-2", "caf\u00e9-2", "STRASSE", "stra\u00dfe-2", "Catalogue.SQLite-2"])
+
     def test_they_are_folders_of_the_archive(self) -> None:
         names = Names(())
         wanted = {"a/b": "a_b", "": "book", "..": "book-2", ".x ": "x", "é♪\udce9": "é_", "catalogue.sqlite": "catalogue.sqlite-2", "a\nb": "a_b-2"}
@@ -136,6 +175,17 @@ class TheNames(unittest.TestCase):
         names = Names(())
         first, second = names.give("x" * 300), names.give("x" * 300)
         self.assertEqual((first, second), ("x" * MOST_CHARACTERS, "x" * MOST_CHARACTERS + "-2"))
+        for name in ("\U00010400" * 300, "\u266a" * 300, "\uac00" * 300):
+            with self.subTest(name[:1]):
+                self.assertLess(len(os.fsencode(names.give(name))), 250)
+
+    def test_they_end_in_no_blank_and_no_dot(self) -> None:
+        """Also if their end is cut off: some file systems drop both."""
+        for end in (" ", ".", " . ", ". b"):
+            given = Names(()).give("x" * (MOST_CHARACTERS - 1) + end + "b" * 20)
+            with self.subTest(end):
+                self.assertEqual(given.rstrip(" ."), given)
+                self.assertEqual(given[: MOST_CHARACTERS - 1], "x" * (MOST_CHARACTERS - 1))
 
 
 class Cutting(unittest.TestCase):
@@ -174,35 +224,6 @@ class Cutting(unittest.TestCase):
         self.assertEqual([part.line_of_book(line) for line in (1, 2, 3)], [1, 8, 9])
 
 
-def track(*events: str) -> bytes:
-    """A track of events in hexadecimal, each with its delta time."""
-    body = b"".join(map(bytes.fromhex, events))
-    return b"MTrk" + len(body).to_bytes(4, "big") + body
-
-
-class Music(unittest.TestCase):
-    """The files are written by hand, as SMF 1.0 has it."""
-
-    HEADER = b"MThd" + bytes.fromhex("00000006 0001 0002 01e0")
-
-    def test_what_a_file_has(self) -> None:
-        conductor = track("00 ff03 03 903c50", "00 ff51 03 07a120", "00 ff58 04 06 03 18 08", "00 ff59 02 02 01", "8f00 ff59 02 00 00", "8f00 ff2f 00")
-        voice = track("00 c0 10", "00 90 3c 50", "9010 80 3c 40", "00 90 3e 50", "81 00 80 3e 40".replace(" ", ""), "00 ff2f 00")
-        self.assertEqual(facts_of(self.HEADER + conductor + voice), Facts("Bm", "6/8", 2 * 15 * 128, 2))
-
-    def test_free_meter_and_flats(self) -> None:
-        conductor = track("00 ff59 02 fd 00", "60 ff58 04 04 02 18 08", "00 ff2f 00")
-        self.assertEqual(facts_of(self.HEADER + conductor), Facts("Eb", None, 0x60, 0))
-
-    def test_the_length_of_a_track_is_no_note(self) -> None:
-        quiet = track("00 ff59 02 00 00", "00 ff2f 00")
-        many = track(*["01 90 3c 50", "01 80 3c 40"] * 1154, "7f ff2f 00")  # 0x2414 bytes
-        long = track(*["01 90 3c 50"], *["01 c0 10"] * 12286, "7f ff2f 00")  # 0x9002 bytes; the bytes 90 02 01 would be a note
-        self.assertEqual(long[4:9].hex(), "0000900201")
-        self.assertEqual(facts_of(self.HEADER + quiet + many).notes, 1154)
-        self.assertEqual(facts_of(self.HEADER + quiet + long).notes, 1)
-
-
 class Storing(setting.Room):
     def test_a_folder_has_the_files_and_no_others_of_their_form(self) -> None:
         storing.store_files(str(self.to), {1: b"one", 2: b"two"})
@@ -212,27 +233,60 @@ class Storing(setting.Room):
         storing.store_files(str(self.to), {1: b"one", 4: b"four"})
         self.assertEqual(sorted(os.listdir(self.to)), ["1.mid", "4.mid", "mine.txt"])
         self.assertEqual(setting.stamp(self.to / "1.mid"), before)
-        self.assertTrue(storing.has_files(str(self.to), frozenset((1, 4))))
-        self.assertFalse(storing.has_files(str(self.to), frozenset((1, 2))))
+        self.assertTrue(storing.has_files(str(self.to), {1: 3, 4: 4}))
+        self.assertFalse(storing.has_files(str(self.to), {1: 3, 2: 3}))
+        self.assertFalse(storing.has_files(str(self.to), {1: 3, 4: 5}))
+
+    def test_an_old_file_that_only_begins_as_the_new_one_is_replaced(self) -> None:
+        for old in (b"12345", b"1234", b"12", b"124", b""):
+            self.write("to/1.mid", old)
+            with self.subTest(old):
+                storing.store_files(str(self.to), {1: b"123"})
+                self.assertEqual(setting.tree(self.to), {"1.mid": b"123"})
+
+    def test_no_link_is_followed(self) -> None:
+        """Neither instead of the folder nor instead of a file."""
+        outside = self.write("outside/1.mid", b"one")
+        self.to.symlink_to(outside.parent)
+        for call in (storing.store_files, storing.has_files):
+            with self.subTest(call.__name__), self.assertRaisesRegex(OSError, "symbolic link"):
+                call(str(self.to), {1: b"two"})  # type: ignore[operator]
+        self.to.unlink()
+        self.to.mkdir()
+        (self.to / "1.mid").symlink_to(outside)
+        self.assertFalse(storing.has_files(str(self.to), {1: 3}))
+        storing.store_files(str(self.to), {1: b"one"})
+        self.assertFalse((self.to / "1.mid").is_symlink())
+        self.assertEqual(setting.tree(self.folder), {"outside/1.mid": b"one", "to/1.mid": b"one"})
+
+    def test_files_are_on_their_disk_if_that_is_asked_for(self) -> None:
+        for syncs in (False, True):
+            with self.subTest(syncs), mock.patch.object(storing, "sync_file_system", side_effect=OSError(5, "broken")) as synced:
+                failure: AbstractContextManager[object] = nullcontext()
+                if syncs:
+                    failure = self.assertRaisesRegex(OSError, "broken")
+                with failure:
+                    storing.store_files(str(self.to), {1: b"one"}, syncs)
+                self.assertEqual(synced.called, syncs)
 
     def test_no_files_need_no_folder(self) -> None:
         storing.store_files(str(self.to), {})
         self.assertFalse(self.to.exists())
-        self.assertTrue(storing.has_files(str(self.to), frozenset()))
+        self.assertTrue(storing.has_files(str(self.to), {}))
+        self.assertFalse(storing.has_files(str(self.to), {1: 1}))
 
     def test_a_write_that_fails_leaves_the_old_file_and_no_half(self) -> None:
         storing.store_files(str(self.to), {1: b"old"})
-        for call in ("write", "rename"):
-            failing = mock.patch(f"os.{call}", side_effect=OSError(28, "No space left on device"))
-            with self.subTest(call), failing, self.assertRaisesRegex(OSError, "No space"):
-                storing.store_files(str(self.to), {1: b"new"})
-            self.assertEqual(setting.tree(self.to), {"1.mid": b"old"})
-
-    def test_a_short_write_is_continued(self) -> None:
-        write = os.write
-        with mock.patch("os.write", side_effect=lambda file, data: write(file, data[:2])):
-            storing.store_files(str(self.to), {1: b"12345"})
-        self.assertEqual(setting.tree(self.to), {"1.mid": b"12345"})
+        failing = mock.patch("os.replace", side_effect=OSError(28, "No space left on device"))
+        with failing, self.assertRaisesRegex(OSError, "No space"):
+            storing.store_files(str(self.to), {1: b"new"})
+        self.assertEqual(setting.tree(self.to), {"1.mid": b"old"})
+        soft, hard = resource.getrlimit(resource.RLIMIT_FSIZE)
+        self.addCleanup(resource.setrlimit, resource.RLIMIT_FSIZE, (soft, hard))
+        resource.setrlimit(resource.RLIMIT_FSIZE, (10, hard))  # a file gets ten bytes, and no more
+        with self.assertRaisesRegex(OSError, "too large"):
+            storing.store_files(str(self.to), {1: b"new" * 10})
+        self.assertEqual(setting.tree(self.to), {"1.mid": b"old"})
 
 
 class TheCatalogue(setting.Room):
@@ -265,7 +319,7 @@ class TheCatalogue(setting.Room):
         remarks = tuple(Remark("fault", line, 1, "BadByte", None, "", 0) for line in (1, 2))
         catalogue.keep(1, Result(Outcome.COMPILED, digest="one", tunes=(TuneRow(7, "Air", 1),), remarks=remarks), "options")
         tables = "SELECT digest, number, title, (SELECT count(*) FROM remarks) FROM books JOIN tunes ON tunes.book = books.id"
-        for at in range(4):  # the statements before the change is there
+        for at in range(5):  # the statements before the change is there
             with self.subTest(at):
                 with mock.patch.object(catalogue, "ask", interrupted_after(at, catalogue.ask)), self.assertRaises(KeyboardInterrupt):
                     catalogue.keep(1, Result(Outcome.COMPILED, digest="two", tunes=(TuneRow(8, "Reel", 1),)), "options")
@@ -286,6 +340,45 @@ class TheCatalogue(setting.Room):
             with closing(sqlite3.connect(path)) as database:
                 self.assertEqual(database.execute("SELECT count(*) FROM books").fetchall(), [(2 * at + 2,)])
         catalogue.close()
+
+    def test_files_reach_the_disk_before_the_catalogue_has_them(self) -> None:
+        """And only if there are new ones. If they cannot, the catalogue does not have them."""
+        path, source, calls = str(self.folder / "catalogue.sqlite"), Source("a.abc", None, "a"), []
+        with closing(sqlite3.connect(path)) as reader:
+
+            def sync() -> None:
+                calls.append(reader.execute("SELECT count(*) FROM books WHERE digest IS NOT NULL").fetchone()[0])
+
+            catalogue = Catalogue(path, sync)
+            catalogue.add(source, "a")
+            catalogue.commit()
+            self.assertEqual(calls, [])
+            catalogue.keep(1, Result(Outcome.COMPILED, digest="one"), "options")
+            catalogue.commit()
+            catalogue.commit()
+            self.assertEqual(calls, [0])
+            self.assertEqual(next(catalogue.ask("PRAGMA synchronous")), (2,))
+            catalogue.keep(1, Result(Outcome.COMPILED, digest="two"), "options")
+            with mock.patch.object(catalogue, "sync_files", side_effect=OSError(5, "broken")), self.assertRaisesRegex(OSError, "broken"):
+                catalogue.commit()
+            self.assertEqual(reader.execute("SELECT digest FROM books").fetchall(), [("one",)])
+            catalogue.close()
+
+    def test_a_slow_disk_has_few_commits(self) -> None:
+        now = [0.0]
+
+        def sync() -> None:
+            now[0] += 0.3
+
+        with mock.patch("time.monotonic", lambda: now[0]):  # that of the machine depends on its other work
+            catalogue = Catalogue(str(self.folder / "catalogue.sqlite"), sync)
+            catalogue.add(Source("a.abc", None, "a"), "a")
+            catalogue.keep(1, Result(Outcome.COMPILED), "options")
+            catalogue.commit()
+            self.assertGreaterEqual(catalogue.pause, 1.2)
+            catalogue.commit()
+            self.assertEqual(catalogue.pause, SECONDS_BETWEEN_COMMITS)
+            catalogue.close()
 
     def test_tables_are_in_order_and_for_all_readers(self) -> None:
         catalogue = Catalogue(str(self.folder / "catalogue.sqlite"))
@@ -320,33 +413,91 @@ def interrupted_after(at: int, ask: Callable[..., Iterator[Any]]) -> Callable[..
 class ThePool(unittest.TestCase):
     def test_a_signal_that_comes_just_before_a_wait_ends_it(self) -> None:
         """As one that comes in the middle of it to another thread: neither ends the wait of the system."""
-        unit: Future[Result] = Future()
+        one = pool.Pool(1)
 
         def interrupt() -> None:
             time.sleep(0.2)
             signal.pthread_kill(threading.get_ident(), signal.SIGINT)
             time.sleep(30)
-            unit.set_result(Result(Outcome.COMPILED))
+            one.ended.put(pool.Ended(Unit("book", "", b"", None, Backend(), False, None, {}), None))
 
-        threading.Thread(target=interrupt, daemon=True).start()
+        with self.assertRaises(KeyboardInterrupt):  # also one that comes before the wait
+            threading.Thread(target=interrupt, daemon=True).start()
+            one.first_ended()
+
+
+class Planning(setting.Room):
+    """The units of sources."""
+
+    def setUp(self) -> None:
+        super().setUp()
+        self.archive = Archive(str(self.to))
+        self.addCleanup(self.archive.release)
+        self.catalogue = Catalogue(self.archive.inside("catalogue.sqlite"))
+        self.addCleanup(self.catalogue.close)
+        self.problems: dict[str, str] = {}
+
+    def units(self, *sources: Source, syncs: bool = False) -> list[Unit]:
+        """The units of sources; those that have none are problems."""
+        manner = Manner(Backend(), False, False, "options", Limits(1 << 30, 5), syncs)
+        planner = Planner(self.archive, self.catalogue, manner, self.problems.__setitem__)
+        return list(planner.units(plan_books(sources, self.archive, self.catalogue)))
+
+    def test_a_unit_has_what_its_source_and_the_command_say(self) -> None:
+        for follows in (True, False):
+            (unit,) = self.units(Source("/in/a.abc", None, "a", follows), syncs=follows)
+            self.assertEqual((unit.book, unit.follows, unit.syncs, unit.limits), ("a", follows, follows, Limits(1 << 30, 5)))
+
+    def test_books_that_an_archive_lost_are_problems(self) -> None:
+        """Also those after a place at which it is broken."""
+        sources = [Source("/in/some.tar", f"{name}.abc", name) for name in "abc"]
+
+        def members(path: str) -> Iterator[Member]:
+            yield Member("a.abc", b"")
+            if "broken" in path:
+                raise OSError(5, "broken")
+
+        with mock.patch("abc2midi_live_archive.planning.read_members", members):
+            self.assertEqual([unit.book for unit in self.units(*sources)], ["a"])
+            self.assertEqual(self.problems, {"b": "it is not in the archive any more", "c": "it is not in the archive any more"})
+            self.problems.clear()
+            broken = [source._replace(path="/in/broken.tar", wanted=f"{source.wanted}-broken") for source in sources]
+            self.assertEqual([unit.book for unit in self.units(*broken)], ["a-broken"])
+            self.assertEqual(self.problems, {"b-broken": "broken", "c-broken": "broken"})
+
+
+class Interrupted(Workers):
+    """Workers over which the user types Ctrl-C, and what signals do while they stop."""
+
+    def __init__(self, *books: str):
+        super().__init__()
+        self.under_way = {book: Unit(book, "", b"", None, Backend(), False, None, {}) for book in books}
+        self.handlers: list[Any] = []
+
+    def do(self, units: Iterator[Unit]) -> Iterator[Done]:
+        raise KeyboardInterrupt
+
+    def stop(self) -> None:
+        self.handlers = [signal.getsignal(number) for number in SIGNALS]
+
+
+class TheRun(setting.Room):
+    def setUp(self) -> None:
+        super().setUp()
+        for number in SIGNALS:
+            self.addCleanup(signal.signal, number, signal.getsignal(number))
+
+    def test_a_run_that_is_interrupted_leaves_no_half_file(self) -> None:
+        """In no folder of a book that its workers had. No signal ends the run before that."""
+        for name in ("a/.1.mid.0123abcd.new", "a/1.mid", "b/.2.mid.0123abcd.new", "other/.3.mid.0123abcd.new"):
+            self.write(f"to/{name}", b"")
+        archive = Archive(str(self.to))
+        self.addCleanup(archive.release)
+        workers, manner = Interrupted("a", "gone", "b"), Manner(Backend(), False, False, "options", Limits(), False)
         with self.assertRaises(KeyboardInterrupt):
-            pool.first_done([unit])
-        self.assertFalse(unit.done())
-
-    def test_units_that_a_broken_pool_refuses_are_done_by_the_next(self) -> None:
-        units = [Unit(f"book_{number}", "", b"", None, Backend(), False, None, frozenset()) for number in range(8)]
-        trials = itertools.count(1)
-
-        def submit(_: object, unit: Unit) -> "Future[Result]":
-            if next(trials) == 2:
-                raise BrokenProcessPool
-            future: Future[Result] = Future()
-            future.set_result(Result(Outcome.COMPILED))
-            return future
-
-        with mock.patch.object(pool, "submit", submit), mock.patch.object(pool, "executor", lambda _: nullcontext()):
-            done = [unit.book for unit, _ in pool.Pool(2).do(iter(units))]
-        self.assertEqual(sorted(done), [unit.book for unit in units])
+            Run(archive, mock.Mock(), manner, False, mock.Mock()).do([], workers)
+        self.assertEqual(workers.handlers, [signal.SIG_IGN] * len(SIGNALS))
+        self.assertEqual(sorted(setting.tree(self.to)), ["a/1.mid", "other/.3.mid.0123abcd.new"])
 
 
 class Excerpts(unittest.TestCase):

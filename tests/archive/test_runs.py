@@ -22,11 +22,11 @@ from unittest import mock
 
 import books
 import setting
-import trial
 from abc2midi_live_archive import compiling
 from abc2midi_live_archive.cutting import Cut, cut_book
 from abc2midi_live_archive.units import Backend, Outcome, Unit
 from books import EXAMPLES, TUNE
+from slow import STOPPED, Slow, wait_for
 
 
 class OverTheProcess(books.Books):
@@ -40,7 +40,7 @@ class OverTheLibrary(books.Books):
 
     def test_more_faults_than_the_catalogue_has(self) -> None:
         """All are counted."""
-        unit = Unit("book", "", b"X:1\nK:C\nC&&&&\n", None, Backend(library=str(setting.library)), False, None, frozenset())
+        unit = Unit("book", "", b"X:1\nK:C\nC&&&&\n", None, Backend(library=str(setting.library)), False, None, {})
         with mock.patch.object(compiling, "MOST_REMARKS", 3):
             result = compiling.do_unit(unit)
         self.assertEqual((len(result.remarks), result.fault_count), (3, 4))
@@ -50,7 +50,7 @@ class OverTheLibrary(books.Books):
         free = b"\n" * 600_000
         tunes = [TUNE % (1, b"One"), TUNE % (2, b"Two") + TUNE % (1, b"Again")]
         self.run_archive(self.write("long.abc", b"M:C|\n\n" + tunes[0] + free + tunes[1] + free))
-        short = trial.fresh(b"M:C|\n\n" + tunes[0] + tunes[1], trial.oracle)
+        short = setting.fresh(b"M:C|\n\n" + tunes[0] + tunes[1])
         self.assertEqual(setting.tree(self.to), {f"long/{name}": data for name, data in short.files.items()})
         self.assertEqual(self.rows("SELECT lines, parts FROM books"), [(1_200_020, 2)])
         titles = [("One", 3), ("Two", 600_009), ("Again", 600_015)]
@@ -70,14 +70,23 @@ class CutBooks(setting.Room):
 
         for number in range(40):
             book = setting.random_book(number)
-            unit = Unit("book", "", book, None, Backend(program=setting.program), False, None, frozenset())
+            unit = Unit("book", "", book, None, Backend(program=setting.program), False, None, {})
             with self.subTest(number), mock.patch.object(compiling, "cut_book", cut):
                 result = compiling.do_unit(unit)
-                fresh = trial.fresh(book, trial.oracle)
+                fresh = setting.fresh(book)
                 files = {f"{name}.mid": data for name, data in (result.files or {}).items()}
                 faults = [(fault.line, fault.column, fault.name) for fault in result.remarks]
                 self.assertEqual((result.outcome, files, sorted(faults)), (Outcome.COMPILED, fresh.files, sorted(fresh.faults)))
         self.assertGreater(parts, 60)
+
+    def test_a_fault_of_the_file_header_counts_once(self) -> None:
+        """Though each part has this header."""
+        book = b"M:3/0\n\n" + TUNE % (1, b"One") + TUNE % (2, b"Two") + b"X:3\nK:C\nC&|\n"
+        unit = Unit("book", "", book, None, Backend(program=setting.program), False, None, {})
+        with mock.patch.object(compiling, "cut_book", lambda lines: cut_book(lines, 8)):
+            result = compiling.do_unit(unit)
+        self.assertEqual((result.outcome, result.parts, result.fault_count), (Outcome.COMPILED, 3, 2))
+        self.assertEqual([(fault.line, fault.column, fault.name) for fault in result.remarks], [(1, 1, "BadMeter"), (17, 2, "BadByte")])
 
 
 class Failures(setting.Runs):
@@ -148,10 +157,22 @@ class Failures(setting.Runs):
         self.run_archive(self.folder / "in")
         self.assertEqual(setting.tree(self.to), wanted)
 
+    def test_a_catalogue_that_cannot_grow(self) -> None:
+        """The run ends with a summary."""
+        for number in range(10):
+            self.write(f"in/book_{number}.abc", b"".join(TUNE % (tune, b"A tune") for tune in range(300)))
+        limited = ["sh", "-c", 'ulimit -f 400; exec "$@"', "sh", *self.words(self.folder / "in", "--jobs", "1")]
+        asked = subprocess.run(limited, capture_output=True, text=True, timeout=setting.SECONDS)
+        self.assertEqual((asked.returncode, "Traceback" in asked.stderr), (1, False), asked)
+        self.assertRegex(asked.stdout, r"books? compiled, .*; stopped\n$")
+        self.assertRegex(asked.stderr, r"archive: .*catalogue.sqlite: .*\n$")
+        self.run_archive(self.folder / "in")
+        self.assertEqual(setting.tree(self.to), self.wanted_tree())
+
     def wanted_tree(self) -> dict[str, bytes]:
         """The files of the books in the folder `in`."""
         books = {path.stem: path.read_bytes() for path in (self.folder / "in").iterdir()}
-        return {f"{name}/{file}": data for name, book in books.items() for file, data in trial.fresh(book, trial.oracle).files.items()}
+        return {f"{name}/{file}": data for name, book in books.items() for file, data in setting.fresh(book).files.items()}
 
     def run_mounted(self, mounting: str, *words: Any) -> setting.Ran:
         """Runs the command where the archive's folder is another file system. The test is skipped if that cannot be made."""
@@ -162,41 +183,6 @@ class Failures(setting.Runs):
         ran = setting.Ran(asked.returncode, asked.stdout.decode(), asked.stderr.decode())
         self.assertNotIn("Traceback", ran.err)
         return ran
-
-
-STOPPED = r"books? compiled, .* not done; \d+:\d\d; stopped\n$"  # the end of the summary
-
-
-class Slow(setting.Runs):
-    """Runs over forty books, by a program that takes its time and that a test can hold."""
-
-    def setUp(self) -> None:
-        super().setUp()
-        self.books = {f"book_{number}": setting.random_book(number) for number in range(40)}
-        for name, book in self.books.items():
-            self.write(f"in/{name}.abc", book)
-        self.turns = self.folder / "turns"
-        slow = self.write("slow", SLOW.format(python=sys.executable, turns=str(self.turns), program=str(setting.program)).encode())
-        slow.chmod(0o755)
-
-    def hold(self, turns: int) -> None:
-        """Lets this number of programs go on, and the others wait: so no run ends by itself, however slow the test is."""
-        self.turns.mkdir(exist_ok=True)
-        for number in range(turns):
-            (self.turns / str(number)).mkdir()
-
-    def release(self) -> None:
-        """Lets all programs go on."""
-        self.turns.rename(self.folder / "released")
-
-    def backend(self) -> list[str]:
-        return ["--program", str(self.folder / "slow")]
-
-    def start_and_wait(self, *words: Any) -> "subprocess.Popen[bytes]":
-        """Starts a run, and waits for its first files."""
-        process = self.start(self.folder / "in", *words)
-        wait_for(lambda: bool(list(self.to.glob("*/*.mid"))) or process.poll() is not None)
-        return process
 
 
 class Stops(Slow):
@@ -261,7 +247,7 @@ class Stops(Slow):
 
     def wanted(self) -> dict[str, bytes]:
         """The files of all books."""
-        return {f"{name}/{file}": data for name, book in self.books.items() for file, data in trial.fresh(book, trial.oracle).files.items()}
+        return {f"{name}/{file}": data for name, book in self.books.items() for file, data in setting.fresh(book).files.items()}
 
     def test_workers_that_are_killed_change_nothing(self) -> None:
         """They are killed while there are other books: one that is done alone has three trials, and many kills would use them up."""
@@ -291,27 +277,6 @@ class Stops(Slow):
         self.assert_as_fresh(self.books)
 
 
-# A program that takes its time. While there is a folder for turns, it needs one of them to go on. Its standard input ends with its worker, and
-# so does it then.
-SLOW = """#!{python} -IS
-import glob, os, select, sys, time
-
-def took(turn):
-    try:
-        os.rmdir(turn)
-    except OSError:
-        return False
-    return True
-
-worker = select.poll()
-worker.register(0, 0)
-time.sleep(0.1)
-while os.path.isdir({turns!r}) and not any(map(took, glob.glob({turns!r} + "/*"))):
-    if worker.poll(100):
-        sys.exit()
-os.execv({program!r}, [{program!r}, *sys.argv[1:]])
-"""
-
 # A reader of a catalogue, until its standard input ends. It is a process: those of one process share their locks.
 READER = """import sqlite3, sys
 database = sqlite3.connect(sys.argv[1])
@@ -324,7 +289,7 @@ sys.stdin.read()
 # A program that kills the worker that started it, if it is still its parent, when it is asked for a certain line.
 DEADLY = """#!/bin/bash
 while IFS= read -r line; do
-    case $line in *'kill the worker'*) grep -q spawn_main "/proc/$PPID/cmdline" && kill -9 "$PPID" ;; esac
+    case $line in *'kill the worker'*) grep -q archive.worker_main "/proc/$PPID/cmdline" && kill -9 "$PPID" ;; esac
     printf '%s\\n' "$line"
 done | {} "$@"
 """
@@ -381,6 +346,40 @@ class Clusters(Slow):
         self.assertEqual(process.returncode, 0, (out, err))
         self.assert_as_fresh(self.books)
 
+    def test_kills_at_moments_of_chance(self) -> None:
+        """Of a worker, which its keeper then starts again, and of the run, which the same command resumes."""
+        chance = random.Random(setting.seed)
+        self.program = str(setting.program)
+        for trial in range(setting.kills):
+            with self.subTest(trial):
+                self.to = self.folder / f"to_{trial}"
+                process = self.start(self.folder / "in")
+                time.sleep(chance.uniform(0.5, 3))
+                is_of_run = chance.random() < 0.3
+                for killed in [process.pid] if is_of_run else setting.children_of(chance.choice(self.workers).pid):
+                    with suppress(ProcessLookupError):
+                        os.kill(killed, signal.SIGKILL)
+                out, err = process.communicate(timeout=setting.SECONDS)
+                self.assertNotIn(b"Traceback", err)
+                if is_of_run:
+                    self.run_archive(self.folder / "in")
+                else:
+                    self.assertEqual(process.returncode, 0, (out, err))
+                self.assert_as_fresh(self.books)
+
+    def test_a_cluster_without_workers_ends_the_run(self) -> None:
+        """After some patience. The books that they were at are in no result."""
+        self.hold(20)
+        process = self.start_and_wait("--patience", "2")
+        for worker in self.workers:
+            setting.end_group(worker)
+        out, err = process.communicate(timeout=setting.SECONDS)
+        self.release()
+        wanted = b"archive: the cluster has no workers any more; waiting 2 seconds for one\n"
+        wanted += b"archive: the cluster has no workers any more, and none came in 2 seconds; the same command resumes the run\n"
+        self.assertEqual((process.returncode, setting.without_progress(err)), (1, wanted))
+        self.assertRegex(out.decode(), STOPPED)
+
     def test_a_scheduler_that_ends_ends_the_run(self) -> None:
         self.hold(20)
         process = self.start_and_wait()
@@ -408,12 +407,3 @@ def address_in(file: Path) -> str:
         address: str = json.loads(file.read_text())["address"]
         return address
     return ""
-
-
-def wait_for(is_there: Any) -> None:
-    """Waits until something is so."""
-    end = time.monotonic() + setting.SECONDS
-    while not is_there():
-        if time.monotonic() > end:
-            raise AssertionError("it did not come about in time")
-        time.sleep(0.02)
