@@ -18,7 +18,7 @@ export interface Report {
 /** A tune of the text. */
 export interface Title {
   number: number;
-  /** The title as text: UTF-8, or Latin-1 if it is not UTF-8. */
+  /** The title as text: UTF-8, or Windows-1252 if it is not UTF-8. */
   text: string;
   bytes: Uint8Array;
 }
@@ -108,7 +108,7 @@ export interface Entry {
   utf16To: number;
 }
 
-/** What all edits of a session cost so far. */
+/** What all edits of a session, and all questions for tokens, cost so far. */
 export interface Work {
   /** Lines scanned. */
   scanned: number;
@@ -174,7 +174,7 @@ export class Session {
    */
   play(number: number): Entry[][] | null;
   readonly lineCount: number;
-  /** All lines as strings: UTF-8, or Latin-1 if a line is not UTF-8. */
+  /** All lines as strings: UTF-8, or Windows-1252 if a line is not UTF-8. */
   readonly lines: string[];
   /** A line as a string. Throws a `RangeError` if there is none. */
   line(number: number): string;

@@ -5,6 +5,9 @@ export const MOST_LINES = 1048576; // of a text
 const MOST_BYTES = 65535; // of a line
 const MARK = [0xef, 0xbb, 0xbf]; // may begin a book
 const MOST_LINE = 2 ** 32 - 1; // of an argument of the module
+// The letters of Windows-1252 for the bytes 128 to 159, which are controls in Latin-1. It leaves five out, which stay controls.
+const WINDOWS_LETTERS =
+  "\u20ac\u0081\u201a\u0192\u201e\u2026\u2020\u2021\u02c6\u2030\u0160\u2039\u0152\u008d\u017d\u008f\u0090\u2018\u2019\u201c\u201d\u2022\u2013\u2014\u02dc\u2122\u0161\u203a\u0153\u009d\u017e\u0178";
 const encoder = new TextEncoder();
 const utf8 = new TextDecoder("utf-8", { fatal: true, ignoreBOM: true });
 
@@ -63,9 +66,9 @@ export function numberFor(value) {
   return value >= 0 && value <= MOST_LINE ? value : null;
 }
 
-/** The text of a line: UTF-8, or Latin-1 if it is not UTF-8. */
+/** The text of a line: UTF-8, or Windows-1252 if it is not UTF-8. */
 export function textOf(bytes) {
-  return utf8Text(bytes) ?? Array.from(bytes, (byte) => String.fromCharCode(byte)).join("");
+  return utf8Text(bytes) ?? Array.from(bytes, (byte) => WINDOWS_LETTERS[byte - 0x80] ?? String.fromCharCode(byte)).join("");
 }
 
 function utf8Text(bytes) {

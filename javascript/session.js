@@ -190,7 +190,8 @@ export class Session {
 
   /** The entries of each track of a number, whose sizes are known. */
   #tracks(number, sizes) {
-    const bytes = this.#copied(ENTRY_SIZE, (it, ...buffer) => it.abc_live_play(this.#block, number, ...buffer));
+    const size = sizes.reduce((sum, count) => sum + count, 0);
+    const bytes = this.#copied(ENTRY_SIZE, (it, ...buffer) => it.abc_live_play(this.#block, number, ...buffer), size);
     const view = viewOf(bytes), columns = new Map();
     const columnsOf = (line) => {
       if (!columns.has(line)) columns.set(line, utf16ColumnsOf(this.lineBytes(line)));
@@ -284,19 +285,23 @@ export class Session {
 
   /**
    * A copy of the bytes that `call` copies, whose items have `size` bytes; null if the call finds nothing. The call gets the place and the
-   * room of a buffer, and the place of a count.
+   * room of a buffer, and the place of a count. There are `known` items, if that is known.
    */
-  #copied(size, call) {
-    const engine = this.#engine, { answer, count: countAt } = this.#places;
-    const code = engine.call((it) => call(it, answer, BigInt(Math.floor(ROOM / size)), countAt));
+  #copied(size, call, known = 0) {
+    const engine = this.#engine, { answer, count: countAt } = this.#places, room = Math.floor(ROOM / size);
+    if (known > room) return this.#copiedToBlock(size, call, known);
+    const code = engine.call((it) => call(it, answer, BigInt(room), countAt));
     if (code === NOT_FOUND) return null;
-    if (code !== SHORT_BUFFER) {
-      check(code);
-      return engine.bytes(answer, this.#count() * size).slice();
-    }
-    const count = this.#count();
+    if (code === SHORT_BUFFER) return this.#copiedToBlock(size, call, this.#count());
+    check(code);
+    return engine.bytes(answer, this.#count() * size).slice();
+  }
+
+  /** A copy of `count` items of `size` bytes that `call` copies, by a block of their own. */
+  #copiedToBlock(size, call, count) {
+    const engine = this.#engine;
     return engine.inBlock(count * size, (block) => {
-      check(engine.call((it) => call(it, block, BigInt(count), countAt)));
+      check(engine.call((it) => call(it, block, BigInt(count), this.#places.count)));
       return engine.bytes(block, count * size).slice();
     });
   }

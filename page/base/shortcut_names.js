@@ -1,4 +1,4 @@
-// The names of keys, which differ on a Mac; and the line at the bottom that has them.
+// The names of keys, which differ on a Mac, and the line at the bottom that has them; and which command a key is.
 
 /** @type {{ userAgentData?: { platform: string }, platform?: string } | undefined} */
 const machine = globalThis.navigator; // only some browsers have `userAgentData`
@@ -11,6 +11,16 @@ export function keysOf(name, onMac = isMac) {
   if (name === "Ctrl-H") return "⌥⌘F";
   if (name === "Ctrl-Y") return "⇧⌘Z";
   return name.replace("Ctrl-", "⌘").replace("Shift-", "⇧").replace("Alt-", "⌥");
+}
+
+/** The key of a command, as a small letter or a name; "" if the key for commands is not held, which is Command on a Mac, and Ctrl
+ * elsewhere. A keyboard with other letters than Latin ones has those of the places of its keys, but for what Alt writes there.
+ * @type {(event: KeyboardEvent, onMac?: boolean) => string} */
+export function commandOf({ key, code, ctrlKey, metaKey, altKey }, onMac = isMac) {
+  if (onMac ? ctrlKey || !metaKey : metaKey || !ctrlKey) return "";
+  if (key.length > 1) return key;
+  const isOther = key > "\x7f" && (onMac || !altKey) && /^Key[A-Z]$/.test(code);
+  return isOther ? code.slice(3).toLowerCase() : key.toLowerCase();
 }
 
 /** Words with the names of keys as this machine has them.

@@ -1,19 +1,19 @@
 // The book on disk: saving it, under another name too, loading it, and what to ask if another program changed it.
 
-import { blobOf } from "./blob.js";
-import { download } from "./downloads.js";
-import { changedOnDisk, goneFromDisk } from "./situations.js";
+import { download } from "../base/download.js";
+import { changedOnDisk, goneFromDisk } from "../link/conflict_questions.js";
+import { blobOf } from "../text/book_blob.js";
 
-/** @typedef {import("./link.js").Failure} Failure
+/** @typedef {import("../link/host_link.js").Failure} Failure
  * The content of a file that may be replaced, by its digest; null if there must be none.
  * @typedef {{ over?: string | null }} Over
  * `book` has the name of the book; `say` shows a sentence; `doubt` returns the name of a question to be answered before a save, if
  * there is one; `compare` shows what is different on the disk.
  * @typedef {object} Parts
- * @property {import("./text.js").Text} text
- * @property {import("./link.js").Link} link
+ * @property {import("../text/text.js").Text} text
+ * @property {import("../link/host_link.js").Link} link
  * @property {{ name: string }} book
- * @property {import("./questions.js").Questions} questions
+ * @property {import("../shell/question_bar.js").Questions} questions
  * @property {(words: string) => void} say
  * @property {() => string | undefined} doubt
  * @property {() => void} compare
@@ -148,7 +148,7 @@ export class Files {
 export class SaveAs {
   /** @param {Files} files
    * @param {HTMLDialogElement} dialog
-   * @param {import("./sheet.js").Sheet} sheet */
+   * @param {import("../editor/text_sheet.js").Sheet} sheet */
   constructor(files, dialog, sheet) {
     const part = (/** @type {string} */ name) => /** @type {HTMLElement} */ (dialog.querySelector(`#copy-${name}`));
     this.files = files;
@@ -167,7 +167,7 @@ export class SaveAs {
     this.opened = () => {}; // the dialog is there
     dialog.querySelector("form")?.addEventListener("submit", (event) => {
       event.preventDefault();
-      if (this.files.writes) this.save({});
+      if (!this.saves.hidden) this.save({});
       else this.download();
     });
     this.name.addEventListener("input", () => this.complain(""));
@@ -183,14 +183,26 @@ export class SaveAs {
   }
 
   open() {
-    const { files, dialog, words, name, saves } = this;
-    const { book, saving, writes } = files;
-    if (saving === "picked") return void files.saveElsewhere();
+    const { saving, writes } = this.files;
+    if (saving === "picked") void this.files.saveElsewhere();
+    else this.ask(writes);
+  }
+
+  /** Offers downloads alone. */
+  openDownloads() {
+    this.ask(false);
+  }
+
+  /** Asks for a name, and whether to save under it if `writes`.
+   * @type {(writes: boolean) => void} */
+  ask(writes) {
+    const { files, dialog, words, name, saves } = this, { book, saving } = files;
     if (dialog.open || files.isAsked()) return;
     words.textContent = writes
       ? `Saves a copy in the folder of ${book.name}, or downloads it. This page goes on with ${book.name}.`
       : `${saving === "folder" ? "No book was named, so there is no folder to save into. " : ""}Downloads the text.`;
     saves.hidden = !writes;
+    dialog.ariaLabel = writes ? "Save as" : "Download";
     name.value = book.name ? book.name.replace(/(\.[^.]*)?$/, " copy$1") : "book.abc";
     this.complain("");
     if (document.activeElement instanceof HTMLElement) this.before = document.activeElement;

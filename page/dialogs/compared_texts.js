@@ -3,7 +3,7 @@
 /** @typedef {import("./differences_dialog.js").Named} Named
  * `say` shows a sentence.
  * @typedef {object} Parts
- * @property {import("./book_host.js").BookHost} server
+ * @property {import("../link/book_host.js").BookHost} server
  * @property {{ lines: string[] }} text
  * @property {{ name: string }} book
  * @property {{ open: (old: Named, now: Named) => void }} dialog

@@ -1,8 +1,8 @@
 // What is different between two texts, as rows to read: lines that go, lines that come, and a few equal ones around them.
 
-import { hunksOf } from "./hunks.js";
+import { hunksOf } from "../text/myers_diff.js";
 
-/** @typedef {import("./hunks.js").Hunk} Hunk
+/** @typedef {import("../text/myers_diff.js").Hunk} Hunk
  * A row: a line of both texts, of the old one alone, of the new one alone, or a number of equal lines that are not shown. `old` and
  * `now` are numbers of lines from 1, 0 if the line is not in that text.
  * @typedef {{ kind: "same" | "out" | "in" | "gap", old: number, now: number, words: string }} Row

@@ -1,8 +1,8 @@
 // The window that shows what is different between two texts.
 
-import { differencesOf } from "./differences.js";
+import { differencesOf } from "./difference_rows.js";
 
-/** @typedef {import("./differences.js").Row} Row
+/** @typedef {import("./difference_rows.js").Row} Row
  * A text to compare: its name, as "this text", and its lines.
  * @typedef {{ name: string, lines: string[] }} Named */
 

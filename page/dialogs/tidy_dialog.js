@@ -1,7 +1,7 @@
 // The dialog that tidies the tune at the caret, or the lines that are selected.
 
-import { field } from "./elements.js";
-import { tidied } from "./tidy.js";
+import { field } from "../base/elements.js";
+import { tidied } from "../tunes/tidy.js";
 import { TuneDialog } from "./tune_dialog.js";
 
 export class TidyDialog extends TuneDialog {

@@ -1,14 +1,15 @@
 // The dialog that transposes the tune at the caret, or what is selected.
 
-import { button, field, find } from "./elements.js";
-import { semitonesTo, tonicsOf } from "./key_fields.js";
-import { barsOf, firstKey, transposed } from "./transpose.js";
+import { button, field, find } from "../base/elements.js";
+import { counted } from "../base/plural.js";
+import { semitonesTo, tonicsOf } from "../tunes/key_field.js";
+import { barsOf, firstKey, transposed } from "../tunes/transpose.js";
 import { TuneDialog } from "./tune_dialog.js";
 
-/** @typedef {import("./transpose.js").Range} Range
- * @typedef {import("./transpose.js").By} By
- * @typedef {import("./transpose.js").Left} Left
- * @typedef {import("./tune_lines.js").TuneLines} TuneLines */
+/** @typedef {import("../tunes/transpose.js").Range} Range
+ * @typedef {import("../tunes/transpose.js").By} By
+ * @typedef {import("../tunes/transpose.js").Left} Left
+ * @typedef {import("../tunes/tune_lines.js").TuneLines} TuneLines */
 
 const MOST_SEMITONES = 36;
 const HIGHEST = 127; // key of MIDI
@@ -38,7 +39,7 @@ export class TransposeDialog extends TuneDialog {
   }
 
   /** By how much, as it is chosen.
-   * @type {(key: import("./key_fields.js").Key | null) => By} */
+   * @type {(key: import("../tunes/key_field.js").Key | null) => By} */
   by(key) {
     const { keys, directions } = this, number = Math.trunc(field("transpose-first").valueAsNumber) || 0;
     if (!key || !field("transpose-by-key").checked) return { semitones: Math.max(-MOST_SEMITONES, Math.min(MOST_SEMITONES, number)) };
@@ -55,7 +56,7 @@ function transposeByEnter(event) {
 }
 
 /** What becomes of the lines of tunes, or of a part of them.
- * @type {(tunes: TuneLines, range: Range | null, by: (key: import("./key_fields.js").Key | null) => By) => import("./tune_dialog.js").Change} */
+ * @type {(tunes: TuneLines, range: Range | null, by: (key: import("../tunes/key_field.js").Key | null) => By) => import("./tune_dialog.js").Change} */
 export function changeOf({ lines, plays, first }, range, by) {
   const { semitones, tonic } = by(firstKey(lines, range)), isOctaves = semitones % 12 === 0 && !tonic, part = range && !isOctaves ? barsOf(lines, range) : range;
   const { lines: found, left, keys, range: now } = transposed(lines, { semitones, tonic }, part);
@@ -71,11 +72,8 @@ export function wayOf(semitones) {
   return semitones ? `${words} ${semitones > 0 ? "up" : "down"}` : "No semitones";
 }
 
-/** @type {(count: number, thing: string) => string} */
-const counted = (count, thing) => `${count} ${thing}${count === 1 ? "" : "s"}`;
-
 /** The notes of a part that MIDI does not have that high or low.
- * @type {(plays: import("./seen.js").Entry[][], semitones: number, textAt: (line: number, column: number) => string, part: Range | null, first: number) => Left[]} */
+ * @type {(plays: import("../link/tokens_and_plays.js").Entry[][], semitones: number, textAt: (line: number, column: number) => string, part: Range | null, first: number) => Left[]} */
 function tooFar(plays, semitones, textAt, part, first) {
   /** @type {Map<string, Left>} */
   const found = new Map();

@@ -1,20 +1,20 @@
 // A dialog that changes the tune at the caret, or what is selected, in one step. It shows before what it does.
 
-import { button, find } from "./elements.js";
-import { movedSelection } from "./selection.js";
-import { tuneLines } from "./tune_lines.js";
+import { button, find } from "../base/elements.js";
+import { movedSelection } from "../text/selection.js";
+import { tuneLines } from "../tunes/tune_lines.js";
 
-/** @typedef {import("./tune_lines.js").TuneLines} TuneLines
- * @typedef {import("./transpose.js").Range} Range
+/** @typedef {import("../tunes/tune_lines.js").TuneLines} TuneLines
+ * @typedef {import("../tunes/transpose.js").Range} Range
  * What would become of some lines: they, in words what is done, and what was done; what stays, by its line among them; and the selection,
  * if it has to be another one.
  * @typedef {{ lines: string[], words: string, done: string, left: { line: number, text: string, why: string }[], range?: Range | null }} Change
  * `say` shows a sentence; `undoKey` is the name of the keys that take something back.
  * @typedef {object} Parts
- * @property {import("./book_host.js").BookHost} server
- * @property {import("./link.js").Link} link
- * @property {import("./findings.js").Findings} findings
- * @property {import("./sheet.js").Sheet} sheet
+ * @property {import("../link/book_host.js").BookHost} server
+ * @property {import("../link/host_link.js").Link} link
+ * @property {import("../link/findings.js").Findings} findings
+ * @property {import("../editor/text_sheet.js").Sheet} sheet
  * @property {(words: string) => void} say
  * @property {string} undoKey */
 
@@ -122,7 +122,7 @@ export class TuneDialog {
     if (tunes.lines.some((line, n) => line.text !== text.lines[tunes.first + n])) return this.read();
     const { lines, done, range } = this.change(tunes, this.range), before = this.selection;
     const edits = lines.flatMap((put, n) => (put === tunes.lines[n].text ? [] : [{ start: tunes.first + n, taken: [tunes.lines[n].text], put: [put] }]));
-    const at = (/** @type {import("./selection.js").Place} */ { line, column }) => ({ line: line + tunes.first, column });
+    const at = (/** @type {import("../text/selection.js").Place} */ { line, column }) => ({ line: line + tunes.first, column });
     const after = range ? { start: at(range.start), end: at(range.end), direction: "forward" } : edits.reduce(movedSelection, before);
     if (edits.length) text.change(edits, before, after);
     this.selection = after;

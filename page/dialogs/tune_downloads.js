@@ -1,16 +1,16 @@
 // The tune that is shown as files for other programs: its sound, and its score.
 
-import { download } from "./downloads.js";
-import { button } from "./elements.js";
-import { fileName } from "./midi_names.js";
-import { recorded } from "./recording.js";
-import { svgOf } from "./score_file.js";
+import { download } from "../base/download.js";
+import { button } from "../base/elements.js";
+import { recorded } from "../music/tune_recording.js";
+import { svgOf } from "../score/score_svg.js";
+import { fileName } from "../tunes/midi_names.js";
 
-/** @typedef {import("./rows.js").TuneRow} TuneRow
+/** @typedef {import("../link/finding_rows.js").TuneRow} TuneRow
  * `say` shows a sentence, `close` closes the dialog.
  * @typedef {object} Parts
- * @property {import("./music.js").Music} music
- * @property {import("./score.js").Score} staves
+ * @property {import("../music/music_panel.js").Music} music
+ * @property {import("../score/score_view.js").Score} staves
  * @property {(words: string) => void} say
  * @property {() => void} close */
 

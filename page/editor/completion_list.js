@@ -1,17 +1,18 @@
 // The list of what may be written at the caret, while someone types.
 
+import { DIRECTIVE } from "../tunes/instruments.js";
 import { completions, narrowed, situationOf } from "./completion.js";
 
 /** @typedef {import("./completion.js").Item} Item
- * @typedef {import("./selection.js").Place} Place */
+ * @typedef {import("../text/selection.js").Place} Place */
 
-const MOST = 60; // items that are shown
+const MOST = 128; // items that are shown: there are as many programs
 
 export class Completing {
   /** `list` is the element of the items; `rows` gives the tunes of the book.
-   * @param {import("./sheet.js").Sheet} sheet
+   * @param {import("./text_sheet.js").Sheet} sheet
    * @param {HTMLElement} list
-   * @param {() => import("./rows.js").TuneRow[]} rows */
+   * @param {() => import("../link/finding_rows.js").TuneRow[]} rows */
   constructor(sheet, list, rows) {
     this.sheet = sheet;
     this.list = list;
@@ -91,7 +92,7 @@ export class Completing {
   /** Up and down choose, Tab takes what is chosen or else the first, Enter what is chosen, Escape closes.
    * @type {(event: KeyboardEvent) => void} */
   key(event) {
-    if (!this.isOpen || event.ctrlKey || event.metaKey || event.altKey || event.shiftKey) return;
+    if (!this.isOpen || event.isComposing || event.ctrlKey || event.metaKey || event.altKey || event.shiftKey) return;
     const { at, items } = this;
     if (event.key === "ArrowDown") this.choose((at + 1) % items.length);
     else if (event.key === "ArrowUp") this.choose(at <= 0 ? items.length - 1 : at - 1);
@@ -123,7 +124,7 @@ export class Completing {
     const after = { start: { line, column }, end: { line, column }, direction: "forward" };
     sheet.text.change([{ start: line, taken: [text], put: [text.slice(0, item.start) + item.text + text.slice(place.column)] }], sheet.selection(), after);
     sheet.refresh(after);
-    if (item.text.endsWith(":")) this.look();
+    if (item.text.endsWith(":") || item.text === DIRECTIVE) this.look();
   }
 }
 

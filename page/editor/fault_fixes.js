@@ -1,6 +1,8 @@
 // What one click mends: the remedies that the sentences of faults and hints name.
 
-import { freeNumber, nextNumber } from "./numbers.js";
+import { freeNumber, nextNumber } from "../tunes/tune_numbers.js";
+import { flatsBefore, germanNotes, plainBlanks, rewrittenTune, sharpsBefore, straightQuotes, withoutMarkup } from "./music_rewrites.js";
+import { isOddSpace, visible } from "./unseen_signs.js";
 
 /** Lines of the text, from `start` on, which become others, and the columns from..to of a line that become others; `words` are those of the button.
  * @typedef {{ words: string, start: number, taken: string[], put: string[], columns?: [from: number, to: number] }} Mend
@@ -15,11 +17,17 @@ const isBlank = (/** @type {string | undefined} */ line) => line !== undefined &
 /** By the name of a fault or a hint: what mends it, if anything does.
  * @type {Record<string, (known: Known) => Mend | null>} */
 const MENDS = {
-  Unclosed: (known) => closing(known),
+  Unclosed: (known) => closingQuotes(known) ?? closing(known),
   BadReference: (known) => renumbering(known),
   SameNumber: (known) => renumbering(known),
-  BadByte: (known) => sharp(known) ?? decoration(known) ?? deletion(known),
-  LostSharp: (known) => sharp(known),
+  BadByte: (known) => quotes(known) ?? sharp(known) ?? decoration(known) ?? blanks(known) ?? deletion(known),
+  LostSharp: (known) => throughTune(known, sharpsBefore, "Write each sharp before its note"),
+  LostFlat: (known) => throughTune(known, flatsBefore, "Write each flat before its note"),
+  GermanNote: (known) => throughTune(known, germanNotes, "Write B for H"),
+  Markup: (known) => throughTune(known, withoutMarkup, "Delete the markup"),
+  BadKey: (known) => bagpipeKey(known),
+  BagpipeKey: (known) => bagpipeKey(known),
+  NoTune: (known) => (known.hint.includes("`X:1`") ? heading(known) : null),
   LooseTie: (known) => tie(known),
   MissingKey: (known) => key(known),
   BadProgram: (known) => (/^%%MIDI program +128\s*$/.test(known.text) ? written(known, "%%MIDI program 127") : null),
@@ -28,7 +36,7 @@ const MENDS = {
 };
 
 /** What mends a fault, or does what a hint says; null if that is not one change.
- * @type {(fault: import("./rows.js").FaultRow, lines: string[], numbers: () => number[]) => Mend | null} */
+ * @type {(fault: import("../link/finding_rows.js").FaultRow, lines: string[], numbers: () => number[]) => Mend | null} */
 export function mendOf([line, start, end, name, hint = ""], lines, numbers) {
   const text = lines[line];
   return text === undefined ? null : (MENDS[name]?.({ line, text, start, end, hint, lines, numbers }) ?? null);
@@ -42,6 +50,44 @@ const written = (known, put) => replacing(known, 0, known.text.length, put);
  * @type {(known: Known, from: number, to: number, put: string, words?: string) => Mend} */
 function replacing({ line, text }, from, to, put, words = `Write ${put}`) {
   return { words, start: line, taken: [text], put: [text.slice(0, from) + put + text.slice(to)], columns: [from, to] };
+}
+
+/** The lines of the tune from a line on, written in another way.
+ * @type {(known: Known, write: (text: string) => string | null, words: string) => Mend | null} */
+function throughTune({ line, lines }, write, words) {
+  const { taken, put } = rewrittenTune(lines, line, write);
+  return taken.length ? { words, start: line, taken, put } : null;
+}
+
+/** The whole line written in another way, if it is one.
+ * @type {(known: Known, put: string, words: string) => Mend | null} */
+const rewritten = (known, put, words) => (put === known.text ? null : replacing(known, 0, known.text.length, put, words));
+
+/** Straight quotes in the whole line for those of a word processor.
+ * @type {(known: Known) => Mend | null} */
+function quotes(known) {
+  const isQuote = straightQuotes(known.text.slice(known.start, known.end)) !== known.text.slice(known.start, known.end);
+  return isQuote ? rewritten(known, straightQuotes(known.text), "Write straight quotes") : null;
+}
+
+/** The same, if one of them closes what a straight one opens.
+ * @type {(known: Known) => Mend | null} */
+function closingQuotes(known) {
+  const { text, start } = known, rest = text.slice(start + 1), straight = straightQuotes(rest);
+  return text[start] === '"' && straight.includes('"') ? rewritten(known, text.slice(0, start + 1) + straight, "Write straight quotes") : null;
+}
+
+/** Blanks in the whole line for spaces that a keyboard does not have.
+ * @type {(known: Known) => Mend | null} */
+function blanks(known) {
+  return isOddSpace(known.text.slice(known.start, known.end)) ? rewritten(known, plainBlanks(known.text), "Write a blank") : null;
+}
+
+/** The key with the sharps of the bagpipe.
+ * @type {(known: Known) => Mend | null} */
+function bagpipeKey(known) {
+  const at = known.text.indexOf("K:", known.start), found = at < 0 ? null : /^K:[ \t]*H[Pp](?![A-Za-z])/.exec(known.text.slice(at));
+  return found && replacing(known, at + found[0].length - 2, at + found[0].length, "D", "Write K:D");
 }
 
 /** Closes what begins at a character: after the word there, as in `"Em DEFD`.
@@ -79,7 +125,7 @@ function decoration(known) {
  * @type {(known: Known) => Mend | null} */
 function deletion(known) {
   const { text, start, end } = known, sign = text.slice(start, end);
-  return sign.trim() && sign !== "&" && text[start - 1] !== "#" ? replacing(known, start, end, "", `Delete ${sign}`) : null;
+  return sign.trim() && sign !== "&" && text[start - 1] !== "#" ? replacing(known, start, end, "", `Delete ${visible(sign)}`) : null;
 }
 
 /** A tie directly after its note.

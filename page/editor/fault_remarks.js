@@ -1,7 +1,10 @@
 // The faults and hints of a tune below the text, and what a mark says when someone points at it.
 
-/** @typedef {import("./rows.js").FaultRow} FaultRow
- * @typedef {import("./mends.js").Mend} Mend
+import { straightQuotes } from "./music_rewrites.js";
+import { isOddSpace, visible } from "./unseen_signs.js";
+
+/** @typedef {import("../link/finding_rows.js").FaultRow} FaultRow
+ * @typedef {import("./fault_fixes.js").Mend} Mend
  * Remarks that are one entry: the first of them, their sign, and how many there are.
  * @typedef {{ fault: FaultRow, sign: string, count: number }} Group
  * An entry of the list, with its fault or hint.
@@ -10,6 +13,13 @@
 const MOST = 50; // in the list
 const MOST_OF_A_SIGN = 24; // characters
 const ODD = /^[^ -~]/; // a sign that is no letter of ASCII
+const BLANKS = /^[ \t]+|[ \t\r]+$/g;
+
+/** The kind of a sign beyond ASCII, since each kind has a mend of its own.
+ * @type {(sign: string) => string | null} */
+function kindOf(sign) {
+  return straightQuotes(sign) !== sign ? "quote" : isOddSpace(sign) ? "space" : null;
+}
 
 /** Remarks that say the same of the same sign, as one: the first of them, the sign, and how many there are. Letters that ABC does
  * not have are one sign, so that a word in another script is one remark.
@@ -19,14 +29,14 @@ export function grouped(faults, lines) {
   const groups = new Map();
   for (const fault of faults) {
     const [line, start, end, name, hint] = fault;
-    const sign = (lines[line] ?? "").slice(start, end).trim();
-    const key = JSON.stringify([name, hint, name === "BadByte" && ODD.test(sign) ? null : short(sign)]);
+    const sign = (lines[line] ?? "").slice(start, end).replace(BLANKS, "");
+    const key = JSON.stringify([name, hint, name === "BadByte" && ODD.test(sign) ? kindOf(sign) : short(sign)]);
     const group = groups.get(key) ?? { fault, signs: new Set(), count: 0 };
     group.signs.add(sign);
     group.count += 1;
     groups.set(key, group);
   }
-  return [...groups.values()].map(({ fault, signs, count }) => ({ fault, sign: short([...signs].join(" ")), count }));
+  return [...groups.values()].map(({ fault, signs, count }) => ({ fault, sign: visible(short([...signs].join(" "))), count }));
 }
 
 /** The begin of a sign, if it is long.
@@ -38,7 +48,7 @@ function short(sign) {
 export class Remarks {
   /** `go` goes to a line and a column.
    * @param {HTMLElement} list
-   * @param {import("./tip.js").Tip} tip
+   * @param {import("../base/tooltip.js").Tip} tip
    * @param {(line: number, column: number) => void} go */
   constructor(list, tip, go) {
     this.list = list;
@@ -53,10 +63,11 @@ export class Remarks {
     this.shown = "[]"; // what the list shows
   }
 
-  /** Shows those of a tune, those of the caret's line first.
-   * @type {(faults: FaultRow[], lines: string[], here: number) => void} */
-  show(faults, lines, here) {
-    const nearest = [...faults].sort((a, b) => Number(a[0] !== here) - Number(b[0] !== here) || Number(Boolean(a[4])) - Number(Boolean(b[4])));
+  /** Shows those of a tune, those of new lines first, then those of the caret's line.
+   * @type {(faults: FaultRow[], lines: string[], here: number, isNew?: (line: number) => boolean) => void} */
+  show(faults, lines, here, isNew = () => false) {
+    const rank = (/** @type {FaultRow} */ [line, , , , hint]) => (isNew(line) ? 0 : 4) + (line === here ? 0 : 2) + (hint ? 1 : 0);
+    const nearest = [...faults].sort((a, b) => rank(a) - rank(b));
     const groups = grouped(nearest, lines).slice(0, MOST), shown = JSON.stringify(groups.map((group) => this.partsOf(group)));
     if (shown !== this.shown) this.list.replaceChildren(...groups.map((group) => this.item(group)));
     else groups.forEach(({ fault }, n) => (/** @type {Item} */ (this.list.children[n]).fault = fault));

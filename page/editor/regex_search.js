@@ -3,14 +3,14 @@
 const PATIENCE = 2000; // milliseconds without an answer
 const TO_START = 20000; // milliseconds in which the worker has to begin
 
-/** @typedef {import("./find.js").What} What
- * @typedef {import("./find.js").Found} Found */
+/** @typedef {import("./search_matches.js").What} What
+ * @typedef {import("./search_matches.js").Found} Found */
 
 export class Expressions {
   /** `start` starts a worker. Its address begins with the present token of the server, as that of the page does, and not with the
    * one of this script, which may be older.
    * @param {() => Worker} start */
-  constructor(start = () => new Worker(new URL("find_worker.js", document.baseURI), { type: "module" })) {
+  constructor(start = () => new Worker(new URL("editor/search_worker.js", document.baseURI), { type: "module" })) {
     this.start = start;
     /** @type {Worker | null} */
     this.worker = null;

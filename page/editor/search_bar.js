@@ -1,13 +1,14 @@
 // Find and replace over the whole book: the line above the text, and the marks of the matches in the lines that are seen.
 
-import { Expressions } from "./expressions.js";
-import { Matches, matchesNothing, replacedIn, replacement, sought } from "./find.js";
-import { Layer, rowOf } from "./layer.js";
+import { commandOf } from "../base/shortcut_names.js";
+import { Expressions } from "./regex_search.js";
+import { Matches, matchesNothing, replacedIn, replacement, sought } from "./search_matches.js";
+import { Layer, rowOf } from "./text_layer.js";
 
-/** @typedef {import("./find.js").What} What
- * @typedef {import("./find.js").Match} Match
- * @typedef {import("./selection.js").Place} Place
- * @typedef {import("./lines.js").Replacement} Replacement */
+/** @typedef {import("./search_matches.js").What} What
+ * @typedef {import("./search_matches.js").Match} Match
+ * @typedef {import("../text/selection.js").Place} Place
+ * @typedef {import("../text/line_edits.js").Replacement} Replacement */
 
 const AT_ONCE = 12; // milliseconds of counting after a key
 const SLICE = 10; // and before the page does something else
@@ -24,7 +25,7 @@ export function replacedWords(count, isOther, undoKey) {
 
 export class Search {
   /** `say` shows a sentence; `undoKey` is the name of the keys that take something back.
-   * @param {import("./sheet.js").Sheet} sheet
+   * @param {import("./text_sheet.js").Sheet} sheet
    * @param {HTMLElement} root
    * @param {(words: string) => void} say
    * @param {string} undoKey */
@@ -90,11 +91,10 @@ export class Search {
   /** Whether a key of the page is one of the search, which then follows it.
    * @type {(event: KeyboardEvent) => boolean} */
   takes(event) {
-    const { key, metaKey, shiftKey, altKey } = event, command = event.ctrlKey || metaKey;
-    const name = metaKey && event.code === "KeyF" ? "f" : key.toLowerCase(); // with Alt a Mac gives another letter
-    if (key === "F3" || (command && name === "g" && !altKey)) this.stepOrOpen(!shiftKey);
-    else if (command && name === "f" && (metaKey || !altKey) && !shiftKey) this.open(altKey);
-    else if (command && name === "h" && !altKey && !shiftKey) this.open(true);
+    const { key, metaKey, shiftKey, altKey } = event, name = commandOf(event);
+    if (key === "F3" || (name === "g" && !altKey)) this.stepOrOpen(!shiftKey);
+    else if (name === "f" && (metaKey || !altKey) && !shiftKey) this.open(altKey);
+    else if (name === "h" && !altKey && !shiftKey) this.open(true);
     else return false;
     return true;
   }
@@ -135,6 +135,7 @@ export class Search {
 
   /** @type {(event: KeyboardEvent) => void} */
   key(event) {
+    if (event.isComposing) return;
     if (event.key === "Escape") this.close();
     else if (event.key === "Enter" && event.target === this.put && event.altKey) this.replaceAll();
     else if (event.key === "Enter" && event.target === this.put) this.replaceOne();
@@ -176,7 +177,7 @@ export class Search {
   }
 
   /** The matches of an expression in some lines are there.
-   * @type {(from: number, found: import("./find.js").Found[][]) => void} */
+   * @type {(from: number, found: import("./search_matches.js").Found[][]) => void} */
   learn(from, found) {
     this.matches?.learn(from, found);
     if (this.wanted) this.seek(this.wanted.place, this.wanted.isForward);

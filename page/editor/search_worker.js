@@ -4,7 +4,7 @@
 // something in some lines. The answers are { isReady } at first, then { number, from, found, isDone } for one stretch of lines after
 // another. Another search ends the one before.
 
-import { matchesIn } from "./find.js";
+import { matchesIn } from "./search_matches.js";
 
 const SLICE = 30; // milliseconds of work between two answers
 
@@ -14,7 +14,7 @@ let present = 0; // the number of the present search
 
 /** Looks through a stretch of lines, and goes on later with those that are left.
  * @param {number} number
- * @param {import("./find.js").What} what
+ * @param {import("./search_matches.js").What} what
  * @param {[number, number][]} gaps */
 function look(number, what, gaps) {
   if (number !== present) return;
@@ -27,7 +27,7 @@ function look(number, what, gaps) {
 }
 
 /** @typedef {{ start: number, stop: number, put: string[] }} Edit
- * @param {{ lines?: string[], edit?: Edit, number: number, what?: import("./find.js").What, gaps: [number, number][] }} message */
+ * @param {{ lines?: string[], edit?: Edit, number: number, what?: import("./search_matches.js").What, gaps: [number, number][] }} message */
 function hear({ lines: all, edit, number, what, gaps }) {
   if (all) lines = all;
   if (edit) lines = lines.slice(0, edit.start).concat(edit.put, lines.slice(edit.stop));

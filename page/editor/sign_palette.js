@@ -1,7 +1,7 @@
 // The palette of signs, for people who do not know ABC yet: a click writes a sign at the caret, and lets it be heard.
 
-import { find } from "./elements.js";
-import { soundNote } from "./sounds.js";
+import { find } from "../base/elements.js";
+import { soundNote } from "../music/synth_sounds.js";
 
 /** A sign: its text, what it means, and what it sounds like: keys of MIDI, those of a chord with + between, each with its length in beats
  * after a colon. A sound of another loudness ends in a velocity, after @.
@@ -57,7 +57,7 @@ export function notesOf(sound) {
 }
 
 export class Signs {
-  /** @param {import("./sheet.js").Sheet} sheet
+  /** @param {import("./text_sheet.js").Sheet} sheet
    * @param {HTMLDialogElement} dialog */
   constructor(sheet, dialog) {
     this.sheet = sheet;

@@ -1,11 +1,11 @@
 // A layer below the text area, with a row for each line about those that are seen.
 
-import { commonEnds, difference } from "./lines.js";
+import { commonEnds, difference } from "../text/line_edits.js";
 
 const TEXT = 3; // the type of a node
 
 export class Layer {
-  /** @param {import("./sheet.js").Sheet} sheet
+  /** @param {import("./text_sheet.js").Sheet} sheet
    * @param {string} className */
   constructor(sheet, className) {
     this.sheet = sheet;
@@ -18,7 +18,7 @@ export class Layer {
   /** Draws the rows of some lines. Each line has a key; `make` makes the row of the n-th. Rows with the same key stay.
    * @type {(first: number, keys: unknown[], make: (n: number) => Node) => void} */
   draw(first, keys, make) {
-    this.element.style.top = `${(first - this.sheet.first) * this.sheet.height}px`;
+    this.element.style.top = `${this.sheet.topInArea(first)}px`;
     const edit = difference(this.keys, keys), old = this.keys;
     this.keys = keys;
     if (edit) this.change(edit, old, make);

@@ -1,15 +1,17 @@
 // The text box. A text area has the lines about those that are seen, and no others, so that a long book is as quick as
 // a short one. Line numbers are beside it; marks of faults and the layers of other modules are below it.
 
-import { onceAFrame } from "./frames.js";
-import { difference } from "./lines.js";
-import { onResize } from "./resizing.js";
-import { movedSelection, selectionAfter } from "./selection.js";
+import { onResize } from "../base/on_resize.js";
+import { onceAFrame } from "../base/once_a_frame.js";
+import { commandOf } from "../base/shortcut_names.js";
+import { difference } from "../text/line_edits.js";
+import { movedSelection, selectionAfter } from "../text/selection.js";
+import { LineRows } from "./line_rows.js";
 
-/** @typedef {import("./selection.js").Place} Place
- * @typedef {import("./selection.js").Selection} Selection
- * @typedef {import("./lines.js").Replacement} Replacement
- * @typedef {import("./rows.js").FaultRow} FaultRow
+/** @typedef {import("../text/selection.js").Place} Place
+ * @typedef {import("../text/selection.js").Selection} Selection
+ * @typedef {import("../text/line_edits.js").Replacement} Replacement
+ * @typedef {import("../link/finding_rows.js").FaultRow} FaultRow
  * A mark in the text, with its fault.
  * @typedef {HTMLElement & { fault: FaultRow }} Mark */
 
@@ -17,9 +19,12 @@ const MARGIN = 25; // lines above and below those that are seen: the browser lay
 const FAR = 100; // lines above and below a caret that leaves them
 const EDGE = 6; // lines that the caret keeps from the edge of the area
 const ROOM = 8; // pixels above the first line and below the last
+const SIDES = 7; // pixels beside wrapped letters: Safari on a phone keeps 6 of them
+const NARROW = 620; // pixels of a window in which lines wrap; narrow_screen.css knows it
+const LETTERS = "0".repeat(10); // whose width is measured
 
 export class Sheet {
-  /** @param {import("./text.js").Text} text
+  /** @param {import("../text/text.js").Text} text
    * @param {ParentNode} root */
   constructor(text, root) {
     const part = (/** @type {string} */ name) => /** @type {HTMLElement} */ (root.querySelector(name));
@@ -50,7 +55,9 @@ export class Sheet {
     this.pointed = () => {};
     /** @type {Selection | null} */
     this.before_input = null; // the selection before what is typed
-    this.composing = false; // the browser composes a letter: the area is left alone
+    this.inputType = ""; // of what is typed, as the browser names it
+    /** @type {{ lines: string[], selection: Selection } | null} */
+    this.composition = null; // the browser composes a letter: the area is left alone. The text before it
     /** @type {(isComposing: boolean) => void} */
     this.composed = () => {}; // a letter is composed, or no more
     this.changed = false; // since the caret was watched last
@@ -62,7 +69,9 @@ export class Sheet {
     /** @type {{ faults: FaultRow[], lines: string[], first: number, last: number } | null} */
     this.drawnFaults = null; // what was drawn last
     this.coverSoon = onceAFrame(() => this.cover());
-    this.height = parseFloat(getComputedStyle(this.area).lineHeight);
+    this.height = parseFloat(getComputedStyle(this.area).lineHeight); // of a row
+    this.rows = new LineRows((line) => Math.round(this.measured(line).height / this.height));
+    this.digits = 0; // of the largest number
     this.listen();
   }
 
@@ -78,7 +87,7 @@ export class Sheet {
     area.addEventListener("blur", () => this.compose(false));
     area.addEventListener("beforeinput", (event) => this.before(event));
     area.addEventListener("keydown", (event) => this.key(event));
-    area.addEventListener("pointerdown", () => this.here_again());
+    area.addEventListener("mousedown", (event) => this.point(event)); // a finger that scrolls presses no button of a mouse
     area.addEventListener("pointermove", (event) => this.pointed(this.faultUnder(event), event));
     area.addEventListener("pointerleave", () => this.pointed([]));
     this.scroller.addEventListener("pointerdown", (event) => {
@@ -91,11 +100,56 @@ export class Sheet {
     document.addEventListener("selectionchange", () => this.watch());
   }
 
+  /** Whether the browser composes a letter. */
+  get composing() {
+    return this.composition !== null;
+  }
+
   /** The lines that are seen: from, to.
    * @type {() => [first: number, last: number]} */
   seen() {
-    const first = Math.max(0, Math.floor((this.top - ROOM) / this.height));
-    return [first, first + Math.ceil(this.high / this.height) + 1];
+    const { lines } = this.text, row = Math.max(0, Math.floor((this.top - ROOM) / this.height));
+    return [this.rows.lineOf(lines, row), this.rows.lineOf(lines, row + Math.ceil(this.high / this.height)) + 1];
+  }
+
+  /** How far below the first line a line begins.
+   * @type {(line: number) => number} */
+  topOf(line) {
+    return this.rows.before(this.text.lines, line) * this.height;
+  }
+
+  /** How far below the begin of the area a line begins.
+   * @type {(line: number) => number} */
+  topInArea(line) {
+    return this.topOf(line) - this.topOf(this.first);
+  }
+
+  /** Lets lines wrap if the window is narrow, after as many letters as have room. The line at the top stays there. */
+  fit() {
+    const [first] = this.seen(), isNarrow = globalThis.innerWidth <= NARROW, letter = isNarrow ? this.measured(LETTERS).width / LETTERS.length : 0;
+    const width = letter ? Math.max(1, Math.floor((this.scroller.clientWidth - this.numbers.offsetWidth - SIDES) / letter)) : 0;
+    if (this.composing || !this.rows.wrap(width)) return;
+    this.area.wrap = width ? "soft" : "off";
+    this.paper.classList.toggle("wraps", width > 0);
+    this.paper.style.setProperty("--row-width", `${width * letter + 0.5}px`);
+    this.drawnFaults = null;
+    this.numbered = this.marked = "";
+    this.stretch();
+    this.scroll(first ? this.topOf(first) + ROOM : 0);
+    const [from, to] = this.seen();
+    this.load(from - MARGIN, to + MARGIN);
+  }
+
+  /** The box of a line.
+   * @type {(line: string) => DOMRect} */
+  measured(line) {
+    const row = document.createElement("div"), letters = document.createElement("span");
+    letters.textContent = line;
+    row.append(letters);
+    this.marks.append(row);
+    const { width } = letters.getBoundingClientRect(), { height } = row.getBoundingClientRect();
+    row.remove();
+    return new DOMRect(0, 0, width, height);
   }
 
   /** Scrolls.
@@ -177,9 +231,10 @@ export class Sheet {
     const { scrollTop, clientHeight } = this.scroller, before = this.high;
     this.top = scrollTop;
     this.high = clientHeight;
-    const end = (this.caret().line + 1) * this.height + ROOM;
+    const end = this.topOf(this.caret().line + 1) + ROOM;
     const isLost = end <= scrollTop + before && end > scrollTop + clientHeight;
     if (isLost && !this.away) this.reveal(this.caret().line);
+    this.fit();
     this.look();
   }
 
@@ -187,7 +242,7 @@ export class Sheet {
   cover() {
     const { scrollTop, scrollLeft, clientWidth, clientHeight, offsetWidth, offsetHeight, scrollWidth } = this.scroller;
     const style = this.view.style, seen = scrollTop + clientHeight - ROOM;
-    style.setProperty("--rest", seen < this.text.lines.length * this.height ? `${Math.max(0, seen % this.height)}px` : "0px");
+    style.setProperty("--rest", seen < this.topOf(this.text.lines.length) ? `${Math.max(0, seen % this.height)}px` : "0px");
     style.setProperty("--below", `${offsetHeight - clientHeight}px`);
     style.setProperty("--beside", `${offsetWidth - clientWidth}px`);
     this.view.classList.toggle("wide", scrollWidth - clientWidth - scrollLeft > 4);
@@ -197,17 +252,25 @@ export class Sheet {
    * @type {(isComposing: boolean) => void} */
   compose(isComposing) {
     if (isComposing === this.composing) return;
-    if (!isComposing) this.read();
-    this.composing = isComposing;
+    if (isComposing) this.composition = { lines: this.text.lines, selection: this.selection() };
+    else this.endComposition();
     this.composed(isComposing);
     if (!isComposing) this.look();
+  }
+
+  /** All that was composed is one step. */
+  endComposition() {
+    this.read();
+    const before = this.composition;
+    this.composition = null;
+    if (before) this.text.composed(before.lines, before.selection, this.typed());
   }
 
   /** Lines became others elsewhere. The selection stays with its text, and the lines that are seen stay where they are.
    * @type {(edit: Replacement) => void} */
   follow(edit) {
     const selection = this.selection(), [top, bottom] = this.seen(), { line } = this.caret();
-    const more = edit.put.length - edit.taken.length;
+    const more = this.rows.sum(edit.put) - this.rows.sum(edit.taken);
     this.stretch();
     if (edit.start + edit.taken.length <= top) this.scroll(this.scroller.scrollTop + more * this.height);
     const [first, last] = this.seen();
@@ -244,7 +307,9 @@ export class Sheet {
     this.coverSoon(); // before what others draw in that frame, so that the page is laid out once
     this.last += edit.put.length - (edit.stop - edit.start);
     const from = this.first + edit.start;
-    this.text.edit(from, this.first + edit.stop, edit.put, before, this.typed());
+    if (this.composing) this.text.compose(from, this.first + edit.stop, edit.put);
+    else this.text.edit(from, this.first + edit.stop, edit.put, before, this.typed());
+    this.inputType = "";
     this.draw();
     this.watch();
   }
@@ -264,12 +329,14 @@ export class Sheet {
       this.history(event.inputType === "historyUndo");
     } else {
       this.before_input = this.selection();
+      this.inputType = event.inputType;
     }
   }
 
   /** Undoes, or does again.
    * @type {(back: boolean) => void} */
   history(back) {
+    if (this.composing) return;
     const selection = back ? this.text.undo() : this.text.redo();
     if (selection) this.refresh(selection);
   }
@@ -277,8 +344,8 @@ export class Sheet {
   /** Keys that go farther than the area does.
    * @type {(event: KeyboardEvent) => void} */
   key(event) {
-    const command = event.ctrlKey || event.metaKey;
-    const key = event.key.length === 1 ? event.key.toLowerCase() : event.key;
+    if (event.isComposing) return;
+    const command = commandOf(event), key = command || event.key;
     const page = this.seen()[1] - this.seen()[0] - 3;
     const { line, column } = this.caret();
     const end = this.text.lines.length - 1;
@@ -326,24 +393,30 @@ export class Sheet {
     this.select(direction === "backward" ? end : start, this.caret());
   }
 
-  /** Someone points into the area, which is where the caret goes. */
-  here_again() {
+  /** Someone points into the area, which is where the caret goes. With Shift the selection begins where it was, which may be outside
+   * of the area.
+   * @type {(event: MouseEvent) => void} */
+  point({ shiftKey }) {
+    const { away } = this;
     this.away = null;
     this.area.classList.remove("away");
+    if (!away || !shiftKey) return;
+    const from = away.direction === "backward" ? away.end : away.start;
+    setTimeout(() => this.select(from, this.caret())); // the browser has moved the caret then
   }
 
   /** Gives the paper the room of all lines. */
   stretch() {
-    this.paper.style.height = `${this.text.lines.length * this.height + 2 * ROOM}px`;
+    this.paper.style.height = `${this.topOf(this.text.lines.length) + 2 * ROOM}px`;
   }
 
   /** Scrolls no farther than a line wants to be seen.
    * @type {(line: number) => void} */
   reveal(line) {
-    const top = line * this.height + ROOM, { scrollTop, clientHeight } = this.scroller;
+    const top = this.topOf(line) + ROOM, end = this.topOf(line + 1) + this.height + ROOM, { scrollTop, clientHeight } = this.scroller;
     this.stretch();
     if (top < scrollTop) this.scroll(top - this.height);
-    else if (top + 2 * this.height > scrollTop + clientHeight) this.scroll(this.aligned(top + 2 * this.height - clientHeight));
+    else if (end > scrollTop + clientHeight) this.scroll(this.aligned(end - clientHeight));
   }
 
   /** The top at or after a place at which a line begins.
@@ -355,8 +428,8 @@ export class Sheet {
   /** Scrolls a line that is not seen to a third of the view.
    * @type {(line: number) => void} */
   bring(line) {
-    const { scrollTop, clientHeight } = this.scroller, top = line * this.height + ROOM;
-    if (top >= scrollTop && top + 2 * this.height <= scrollTop + clientHeight) return;
+    const { scrollTop, clientHeight } = this.scroller, top = this.topOf(line) + ROOM;
+    if (top >= scrollTop && this.topOf(line + 1) + this.height + ROOM <= scrollTop + clientHeight) return;
     this.stretch();
     this.scroll(this.aligned(top - clientHeight / 3));
   }
@@ -365,14 +438,24 @@ export class Sheet {
    * @type {(line: number, column?: number, focus?: boolean) => void} */
   go(line, column = 0, focus = false) {
     this.stretch();
-    this.scroll(line < 3 ? 0 : (line - 2) * this.height + ROOM);
+    this.scroll(line < 3 ? 0 : this.topOf(line - 2) + ROOM);
     this.select({ line, column }, { line, column });
     this.scroller.scrollLeft = 0;
     const marks = /** @type {Mark[]} */ ([...this.marks.querySelectorAll("mark")]);
-    marks.find(({ fault }) => fault[0] === line && fault[1] === column)?.scrollIntoView({ block: "nearest", inline: "nearest" });
+    this.showMark(marks.find(({ fault }) => fault[0] === line && fault[1] === column) ?? null);
     if (!focus) return;
     this.area.focus({ preventScroll: true });
     this.view.scrollIntoView({ block: "nearest" }); // on a narrow screen the text may be above what is seen
+  }
+
+  /** Scrolls to a mark in a line. If it is seen from the begin of the lines, these are not a few pixels to the side.
+   * @type {(mark: Element | null) => void} */
+  showMark(mark) {
+    mark?.scrollIntoView({ block: "nearest", inline: "nearest" });
+    const { scrollLeft, clientWidth } = this.scroller;
+    if (!mark || !scrollLeft) return;
+    const { left } = this.scroller.getBoundingClientRect(), { right } = mark.getBoundingClientRect();
+    if (right - left + scrollLeft <= clientWidth) this.scroller.scrollLeft = 0;
   }
 
   /** The caret may have moved. */
@@ -385,25 +468,38 @@ export class Sheet {
     if (line === this.line && !this.changed) return;
     this.line = line;
     this.changed = false;
-    this.here.style.top = `${(line - this.first) * this.height}px`;
+    this.showHere(line);
     this.moved(line);
   }
 
   /** Draws the numbers and the marks of the lines in the area. */
   draw() {
-    const { first, last, height, text } = this;
+    const { first, last, text } = this, digits = String(text.lines.length).length;
     this.stretch();
-    this.paper.style.setProperty("--digits", String(String(text.lines.length).length));
-    this.leaf.style.top = `${first * height + ROOM}px`;
-    this.area.style.height = `${(last - first) * height}px`;
+    this.paper.style.setProperty("--digits", String(digits));
+    if (digits !== this.digits) {
+      this.digits = digits;
+      if (this.rows.width) this.fit();
+    }
+    this.leaf.style.top = `${this.topOf(first) + ROOM}px`;
+    this.area.style.height = `${this.topInArea(last)}px`;
     let widest = 0;
     for (let line = first; line < last; line += 1) widest = Math.max(widest, text.lines[line].length);
-    this.area.style.minWidth = `${widest + 4}ch`;
-    this.here.style.top = `${(this.caret().line - first) * height}px`;
+    this.area.style.minWidth = this.rows.width ? "0" : `${widest + 4}ch`;
+    this.showHere(this.caret().line);
     this.changed = true;
     this.drawFaults();
     this.drawLayers();
     this.coverSoon();
+  }
+
+  /** Shows which line has the caret.
+   * @type {(line: number) => void} */
+  showHere(line) {
+    const { style } = this.here, top = this.topInArea(line);
+    style.top = `${top}px`;
+    if (this.rows.width) style.height = `${this.topInArea(line + 1) - top}px`;
+    else if (style.height) style.height = "";
   }
 
   /** Lets the layers draw the lines about those that are seen. A long selection may have many more lines in the area. */
@@ -424,7 +520,7 @@ export class Sheet {
 
   /** @type {(faults: FaultRow[]) => void} */
   drawMarks(faults) {
-    const marked = JSON.stringify(faults.map(([line, start, end, , hint]) => [line - this.first, start, end, Boolean(hint), this.text.lines[line]]));
+    const marked = JSON.stringify(faults.map(([line, start, end, , hint]) => [this.topInArea(line), start, end, Boolean(hint), this.text.lines[line]]));
     if (marked === this.marked) {
       const marks = /** @type {NodeListOf<Mark>} */ (this.marks.querySelectorAll("mark"));
       for (const [n, mark] of [...marks].entries()) mark.fault = faults[n];
@@ -437,18 +533,20 @@ export class Sheet {
     /** @type {Map<number, boolean>} */
     const faulty = new Map(); // by line: whether all that is there are hints
     for (const [line, , , , hint] of faults) faulty.set(line, Boolean(hint) && (faulty.get(line) ?? true));
-    const numbered = [this.first, this.last, ...[...faulty].flat()].join();
+    const rows = this.rows.width ? this.text.lines.slice(this.first, this.last).map((_, n) => this.rows.of(this.text.lines, this.first + n)) : [];
+    const numbered = [this.first, this.last, ...[...faulty].flat(), ...rows].join();
     if (numbered === this.numbered) return;
     this.numbered = numbered;
     const numbers = document.createDocumentFragment();
     let plain = "";
     for (let line = this.first; line < this.last; line += 1) {
+      const end = "\n".repeat(rows[line - this.first] ?? 1);
       if (faulty.has(line)) {
         const className = faulty.get(line) ? "hint" : "";
-        numbers.append(plain, Object.assign(document.createElement("b"), { textContent: String(line + 1), className }), "\n");
+        numbers.append(plain, Object.assign(document.createElement("b"), { textContent: String(line + 1), className }), end);
         plain = "";
       } else {
-        plain += `${line + 1}\n`;
+        plain += `${line + 1}${end}`;
       }
     }
     numbers.append(plain);
@@ -461,7 +559,7 @@ export class Sheet {
     const [number, start, end] = fault;
     const line = this.text.lines[number] ?? "";
     const row = document.createElement("div"), mark = Object.assign(document.createElement("mark"), { fault });
-    row.style.top = `${(number - this.first) * this.height}px`;
+    row.style.top = `${this.topInArea(number)}px`;
     mark.textContent = line.slice(start, Math.max(end, start + 1)) || " ";
     if (fault[4]) mark.className = "hint";
     row.append(line.slice(0, start), mark);
@@ -472,7 +570,7 @@ export class Sheet {
    * @type {(place: Place) => DOMRect} */
   boxOf({ line, column }) {
     const row = document.createElement("div"), here = document.createElement("span");
-    row.style.top = `${(line - this.first) * this.height}px`;
+    row.style.top = `${this.topInArea(line)}px`;
     here.textContent = "\u200b";
     row.append(this.text.lines[line].slice(0, column), here);
     this.marks.append(row);

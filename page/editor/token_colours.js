@@ -1,7 +1,7 @@
 // Colours for the tokens of a text: a layer below the text area, whose own letters cannot be seen, has the lines about those that are
 // seen. The host finds the tokens.
 
-import { Layer, rowOf } from "./layer.js";
+import { Layer, rowOf } from "./text_layer.js";
 
 /** @typedef {[start: number, end: number, name: string]} Part
  * A line with its parts. The key is the same if both are the same.
@@ -16,17 +16,17 @@ const NAMES = {
 const FIELDS = ["NumberField", "TitleField", "KeyField", "OtherField"];
 const LYRICS = "wWs"; // letters of fields
 const WORDS = "^_<>@"; // a quoted text that begins with one of these is no chord
-/** @type {import("./seen.js").Token[]} */
+/** @type {import("../link/tokens_and_plays.js").Token[]} */
 const NONE = [];
 const SIGNS = ".~HIJKLMNOPQRSTUVWhijklmnopqrstuvw"; // decorations of one letter
 
 /** The parts of a line that have a colour, in order: begin, end, name.
- * @type {(line: string, tokens: import("./seen.js").Token[]) => Part[]} */
+ * @type {(line: string, tokens: import("../link/tokens_and_plays.js").Token[]) => Part[]} */
 export function partsOf(line, tokens) {
   return line.length > MOST ? [] : tokens.flatMap((token) => partsOfToken(line, token));
 }
 
-/** @type {(line: string, token: import("./seen.js").Token) => Part[]} */
+/** @type {(line: string, token: import("../link/tokens_and_plays.js").Token) => Part[]} */
 function partsOfToken(line, { from, to, kind }) {
   if (FIELDS.includes(kind)) {
     const value = LYRICS.includes(line[from]) ? "lyric" : "value";
@@ -36,20 +36,20 @@ function partsOfToken(line, { from, to, kind }) {
   return !name || (kind === "NoEffect" && !SIGNS.includes(line[from])) ? [] : [[from, to, name]];
 }
 
-/** @type {(line: string, tokens: import("./seen.js").Token[]) => Row} */
+/** @type {(line: string, tokens: import("../link/tokens_and_plays.js").Token[]) => Row} */
 function coloured(line, tokens) {
   const parts = partsOf(line, tokens);
   return { line, parts, key: `${parts.join()} ${line}` };
 }
 
 export class Colours {
-  /** @param {import("./sheet.js").Sheet} sheet
-   * @param {import("./seen.js").Seen} seen */
+  /** @param {import("./text_sheet.js").Sheet} sheet
+   * @param {import("../link/tokens_and_plays.js").Seen} seen */
   constructor(sheet, seen) {
     this.sheet = sheet;
     this.seen = seen;
     this.layer = new Layer(sheet, "colours");
-    /** @type {WeakMap<import("./seen.js").Token[], Row>} */
+    /** @type {WeakMap<import("../link/tokens_and_plays.js").Token[], Row>} */
     this.known = new WeakMap(); // by the tokens of a line
     sheet.layers.push(this);
     seen.hearers.push(() => this.show(...sheet.drawn));
@@ -69,7 +69,7 @@ export class Colours {
   }
 
   /** A line with its parts.
-   * @type {(line: string, tokens: import("./seen.js").Token[]) => Row} */
+   * @type {(line: string, tokens: import("../link/tokens_and_plays.js").Token[]) => Row} */
   coloured(line, tokens) {
     let known = this.known.get(tokens);
     if (known?.line !== line) this.known.set(tokens, (known = coloured(line, tokens)));

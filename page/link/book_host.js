@@ -12,6 +12,7 @@
  * @typedef {object} BookHost
  * @property {string} called its name in a sentence, after "the"
  * @property {Offers} offers
+ * @property {() => boolean} isKept whether it keeps the text that it has when the window goes
  * @property {boolean} canProve whether it can prove that it is the one of this book
  * @property {() => void} renewed is called when it was started again
  * @property {(name: string) => string} address the address of a name

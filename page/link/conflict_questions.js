@@ -1,7 +1,7 @@
 // The words of questions about texts that differ: each names its situation, and says what each answer does.
 
-import { keysOf } from "./keys.js";
-import { difference } from "./lines.js";
+import { keysOf } from "../base/shortcut_names.js";
+import { difference } from "../text/line_edits.js";
 
 const MOST = 40; // characters of a line that are quoted
 const BACK = `${keysOf("Ctrl-Z")} takes that back`;

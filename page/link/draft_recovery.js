@@ -1,15 +1,15 @@
 // Keeps this window's text in the browser while the server may not have it, and asks what to do with text that was kept.
 
-import { Drafts } from "./drafts.js";
-import { bothChanged, keptByBrowser } from "./situations.js";
+import { bothChanged, keptByBrowser } from "./conflict_questions.js";
+import { Drafts } from "./draft_store.js";
 
 const SOON = 300; // milliseconds after a key
 
 export class KeptText {
-  /** @param {import("./text.js").Text} text
-   * @param {import("./link.js").Link} link
-   * @param {import("./book.js").Book} book
-   * @param {import("./questions.js").Questions} questions
+  /** @param {import("../text/text.js").Text} text
+   * @param {import("./host_link.js").Link} link
+   * @param {import("./host_book.js").Book} book
+   * @param {import("../shell/question_bar.js").Questions} questions
    * @param {(lines: string[], name: string) => void} compare shows what is different in other lines */
   constructor(text, link, book, questions, compare) {
     this.text = text;

@@ -40,6 +40,15 @@ export class Drafts {
     }
   }
 
+  /** Forgets all text of the book. */
+  forgetBook() {
+    try {
+      for (const key of Object.keys(localStorage)) if (key.startsWith(this.prefix)) localStorage.removeItem(key);
+    } catch {
+      // a browser that stores nothing
+    }
+  }
+
   /** What other windows left, or this one before it was loaded anew: the newest that is not this text, and that the present run of
    * the server has not had.
    * @type {(lines: string[], passed: Set<string>, state: { run: string, unsaved: boolean }) => Draft | null} */

@@ -1,5 +1,7 @@
 // Rows of what the server finds in the text: sorted lists of [line, ..] that move with their lines. The server has the same in
-// rows.py, which mirrors `without`, `difference` and `changed`: tests/clients/test_rows.py compares the two.
+// finding_rows.py, which mirrors `without`, `difference` and `changed`: tests/clients/page/test_finding_rows.py compares the two.
+
+import { countBefore } from "../base/binary_search.js";
 
 /** A fault or a hint: its line, where it begins and ends there, its name, and the sentence of a hint.
  * @typedef {[line: number, start: number, end: number, name: string, hint?: string]} FaultRow */
@@ -10,20 +12,6 @@
 /** Some rows at a place became others.
  * @template R
  * @typedef {{ at: number, out: number, put: R[] }} Difference */
-
-/** How many of the first items of a sorted list are before something.
- * @template T
- * @param {T[]} list
- * @param {(item: T) => boolean} isBefore */
-export function countBefore(list, isBefore) {
-  let low = 0, high = list.length;
-  while (low < high) {
-    const middle = (low + high) >> 1;
-    if (isBefore(list[middle])) low = middle + 1;
-    else high = middle;
-  }
-  return low;
-}
 
 /** The place in rows of the first that is at a line or after it.
  * @type {(rows: [line: number, ...more: any[]][], line: number) => number} */

@@ -1,16 +1,16 @@
 // The faults, hints and tunes of the book at their places in this window's text, which the server may not have yet.
 
-import { placeOf, rowsIn, without } from "./rows.js";
+import { placeOf, rowsIn, without } from "./finding_rows.js";
 
-/** @typedef {import("./rows.js").FaultRow} FaultRow
- * @typedef {import("./rows.js").TuneRow} TuneRow */
+/** @typedef {import("./finding_rows.js").FaultRow} FaultRow
+ * @typedef {import("./finding_rows.js").TuneRow} TuneRow */
 
 const MOST_RANGES = 8; // of lines, of which the remarks are remembered
 
 export class Findings {
-  /** @param {import("./text.js").Text} text
-   * @param {import("./link.js").Link} link
-   * @param {import("./book.js").Book} book */
+  /** @param {import("../text/text.js").Text} text
+   * @param {import("./host_link.js").Link} link
+   * @param {import("./host_book.js").Book} book */
   constructor(text, link, book) {
     this.text = text;
     this.link = link;
@@ -19,6 +19,9 @@ export class Findings {
     this.faults = [];
     /** @type {FaultRow[]} */
     this.hints = [];
+    /** @type {Set<string>} */
+    this.hiddenKinds = new Set(); // of hints; another set if others are hidden
+    this.known = { hints: this.hints, kinds: this.hiddenKinds, shown: this.hints }; // the hints that were looked through last
     /** @type {TuneRow[]} */
     this.tunes = [];
     /** @type {{ tunes: TuneRow[], number: number | null, at: number }} */
@@ -31,9 +34,17 @@ export class Findings {
   renew() {
     const { faults, hints } = this;
     this.faults = this.placed(this.book.faults);
-    this.hints = this.placed(this.book.hints);
+    this.hints = this.placed(this.shownHints);
     if (faults !== this.faults || hints !== this.hints) this.found.clear();
     this.tunes = this.placed(this.book.tunes);
+  }
+
+  /** The hints of the book that are not hidden: the same list until it has others. */
+  get shownHints() {
+    const { hints } = this.book, { hiddenKinds: kinds, known } = this;
+    if (!kinds.size) return hints;
+    if (known.hints !== hints || known.kinds !== kinds) this.known = { hints, kinds, shown: hints.filter(([, , , name]) => !kinds.has(name)) };
+    return this.known.shown;
   }
 
   /** Rows of the server's text, as they are in this window's.

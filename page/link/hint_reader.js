@@ -4,8 +4,8 @@ const SOON = 50; // milliseconds
 
 export class HintReader {
   /** @param {import("./book_host.js").BookHost} server
-   * @param {import("./link.js").Link} link
-   * @param {import("./book.js").Book} book */
+   * @param {import("./host_link.js").Link} link
+   * @param {import("./host_book.js").Book} book */
   constructor(server, link, book) {
     this.server = server;
     this.link = link;

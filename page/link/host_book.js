@@ -1,9 +1,9 @@
 // The book as the server has it: its name, its faults, hints and tunes.
 
-import { changed } from "./rows.js";
+import { changed } from "./finding_rows.js";
 
-/** @typedef {import("./rows.js").FaultRow} FaultRow
- * @typedef {import("./rows.js").TuneRow} TuneRow */
+/** @typedef {import("./finding_rows.js").FaultRow} FaultRow
+ * @typedef {import("./finding_rows.js").TuneRow} TuneRow */
 
 export class Book {
   constructor() {
@@ -18,7 +18,7 @@ export class Book {
   }
 
   /** Takes a whole book.
-   * @type {(fresh: import("./link.js").Book) => void} */
+   * @type {(fresh: import("./host_link.js").Book) => void} */
   open({ name, faults, hintRows, hints, tunes }) {
     this.name = name;
     this.faults = faults;
@@ -27,7 +27,7 @@ export class Book {
   }
 
   /** Takes a change. Hints of the lines that changed are read later.
-   * @type {(change: import("./link.js").Change) => void} */
+   * @type {(change: import("./host_link.js").Change) => void} */
   change({ edit, faults, tunes }) {
     this.faults = changed(this.faults, edit, faults);
     this.tunes = changed(this.tunes, edit, tunes);

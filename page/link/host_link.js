@@ -1,7 +1,7 @@
 // The way to the server: sends what was typed, brings what others changed, and waits while the server is away.
 
-import { Ancestry, hasEdit, joined, lackedBy } from "./ancestry.js";
-import { difference, replaced } from "./lines.js";
+import { difference, replaced } from "../text/line_edits.js";
+import { Ancestry, hasEdit, joined, lackedBy } from "./version_ancestry.js";
 
 /** What the server says of the book. `saved` is what its text was last, `disk` what the file is now.
  * @typedef {object} State
@@ -22,10 +22,10 @@ import { difference, replaced } from "./lines.js";
  * @property {string} name
  * @property {string} id
  * @property {string[]} lines
- * @property {import("./ancestry.js").Edits} has
- * @property {import("./rows.js").FaultRow[]} faults
- * @property {import("./rows.js").TuneRow[]} tunes
- * @property {import("./rows.js").FaultRow[]} hintRows
+ * @property {import("./version_ancestry.js").Edits} has
+ * @property {import("./finding_rows.js").FaultRow[]} faults
+ * @property {import("./finding_rows.js").TuneRow[]} tunes
+ * @property {import("./finding_rows.js").FaultRow[]} hintRows
  * @property {Record<string, string[]>} sentences
  * @typedef {State & Whole} Book */
 /** A change of the book: the edit of a window, null for what came from disk, and what follows from it. `has` is what the text has in
@@ -35,18 +35,18 @@ import { difference, replaced } from "./lines.js";
  * @property {number} moment
  * @property {string | null} window
  * @property {string} writing has one name for all changes that were made together
- * @property {import("./ancestry.js").Edits} has
- * @property {import("./rows.js").Edit} edit
+ * @property {import("./version_ancestry.js").Edits} has
+ * @property {import("./finding_rows.js").Edit} edit
  * @property {boolean} unsaved
- * @property {import("./rows.js").Difference<import("./rows.js").FaultRow>} faults
- * @property {import("./rows.js").Difference<import("./rows.js").TuneRow>} tunes
+ * @property {import("./finding_rows.js").Difference<import("./finding_rows.js").FaultRow>} faults
+ * @property {import("./finding_rows.js").Difference<import("./finding_rows.js").TuneRow>} tunes
  * @property {number[]} written
  * @property {number[]} removed
  * @property {number} milliseconds */
 /** Why something failed: with a status and what was answered, if there was an answer.
  * @typedef {Error & { status?: number, told?: any }} Failure
  * The edit on its way, with its number among those of this window, and the edits that the server's text gets by it.
- * @typedef {import("./text.js").Sent & { number: number, has: import("./ancestry.js").Edits }} Sent */
+ * @typedef {import("../text/text.js").Sent & { number: number, has: import("./version_ancestry.js").Edits }} Sent */
 /** The situation of the link. Edits are sent while it follows, and in no other one. `away` says why the server counts as away.
  * What was asked for in one situation has no effect in the next one.
  * @typedef {{ name: "joining", away: string }} Joining the whole book was asked for, or waits till the text is not held
@@ -60,7 +60,7 @@ const POLL = 1000; // milliseconds between questions for news, if there are many
 const TRIES = 5; // of a save, while edits of others arrive
 
 export class Link {
-  /** @param {import("./text.js").Text} text
+  /** @param {import("../text/text.js").Text} text
    * @param {import("./book_host.js").BookHost} server */
   constructor(text, server) {
     this.text = text;
@@ -72,7 +72,7 @@ export class Link {
     this.state = null; // of the server: run, version, moment, mark, returns, letters, unsaved, saved, disk, trouble, windows, hints
     /** @type {Ancestry | null} */
     this.ancestry = null; // the texts of the server
-    /** @type {import("./ancestry.js").Edits} */
+    /** @type {import("./version_ancestry.js").Edits} */
     this.has = {}; // the edits that this window's text has in it
     this.author = this.window; // of the edits of this window
     this.number = 0; // of the last one
@@ -101,9 +101,9 @@ export class Link {
     /** @type {(why: string) => void} */
     this.refused = () => {}; // an edit that the server does not take
     this.twice = () => {}; // another window changed the same letters
-    /** @type {(start: number, stop: number) => import("./seen.js").Want | null} */
+    /** @type {(start: number, stop: number) => import("./tokens_and_plays.js").Want | null} */
     this.sees = () => null; // what is seen of some lines and after them: an edit asks for it
-    /** @type {(view: import("./seen.js").View, version: number) => void} */
+    /** @type {(view: import("./tokens_and_plays.js").View, version: number) => void} */
     this.viewed = () => {}; // what an edit's answer has of that
   }
 
@@ -125,6 +125,11 @@ export class Link {
   /** Whether the text is another one than the file. */
   get isUnsaved() {
     return !this.isSettled || (this.state !== null && this.state.unsaved);
+  }
+
+  /** Whether the text is in a file, or where the host keeps it: the window may go then. */
+  get isSafe() {
+    return this.state === null || !this.isUnsaved || (this.isSettled && this.server.isKept());
   }
 
   /** Whether the server refused the text as it is now: it is not sent again until it is another one. */
@@ -348,7 +353,7 @@ export class Link {
 
   /** The server's text got edits that this window's text has too, or lacks some that it had, as after a restart of the server. Both
    * were made of a text that this window knows. `had` is what this window's text had before.
-   * @type {(next: import("./ancestry.js").Version, had: import("./ancestry.js").Edits) => void} */
+   * @type {(next: import("./version_ancestry.js").Version, had: import("./version_ancestry.js").Edits) => void} */
   rejoin(next, had) {
     const { text, texts } = this, count = text.lines.length, base = texts.sharedWith(next, { lines: text.lines, has: had }) ?? texts;
     const isTwice = text.rebase(base.lines, next.lines);

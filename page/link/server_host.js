@@ -1,16 +1,15 @@
 // The server: how it is asked; and how it proves, after a loss, that it is the one of this book, before it is asked anything
 // else. Another program may have taken its port.
 
-import { Socket } from "./socket.js";
+import { OK, Socket } from "./web_socket.js";
 
-/** @typedef {import("./socket.js").Answer} Answer */
+/** @typedef {import("./web_socket.js").Answer} Answer */
 
 const PATIENCE = 5000; // milliseconds for a proof
 const SILENCE = 8000; // milliseconds without a word, after which the server counts as lost: it says one every three seconds
 /** @type {{ timeout: (milliseconds: number) => AbortSignal }} */
 const signals = /** @type {any} */ (AbortSignal); // the types of an older compiler lack `timeout`
 const NO_ANSWER = "it does not answer";
-const OK = 200; // a status
 const QUICK = /^(edit|view|midi\/\d+)$/; // what is asked through a socket: its answer takes milliseconds
 
 export class Server {
@@ -28,6 +27,11 @@ export class Server {
     this.renewed = () => {}; // the server was started again: it has another token
     this.called = "server";
     this.offers = { saving: /** @type {const} */ ("folder"), score: true, zip: true };
+  }
+
+  /** The server has the text also when the window goes. */
+  isKept() {
+    return true;
   }
 
   /** Whether this browser can check a proof. */

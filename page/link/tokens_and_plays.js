@@ -7,7 +7,7 @@
 // All lines and columns are those of the text of this window, counted from 0, columns in UTF-16 units, ends exclusive. While an edit has no
 // answer yet, tokens and entries are at their places by what was typed: those of a changed line are kept as far as its ends are the same.
 
-import { commonEnds } from "./lines.js";
+import { commonEnds } from "../text/line_edits.js";
 
 /** The kinds of tokens are those of the JavaScript package, docs/javascript.md: "Note", "Rest", "BarRest", "Chord", "InlineField",
  * "BarLine", "Ending", "Tuplet", "BrokenRhythm", "Tie", "Dynamic", "Blank", "Quoted", "Decoration", "Grace", "Space", "NoEffect", "BadByte",
@@ -49,14 +49,14 @@ export const KINDS = [
 export const ENTRY_KINDS = /** @type {const} */ (["Other", "Note", "Rest", "Bar"]); // by their numbers
 const TOKEN_SIZE = 4, ENTRY_SIZE = 9; // numbers
 const LINE = 2; // the place of the line among those of an entry
-const NO_KEY = 128;
+export const NO_KEY = 128; // of an entry without a sound
 const MOST = 20_000; // lines of which the tokens are remembered
 const NEAR = 30; // lines after an edit: as many as most windows show there
 const REST = 300; // milliseconds without an edit
 
 export class Seen {
-  /** @param {import("./text.js").Text} text
-   * @param {import("./link.js").Link} link
+  /** @param {import("../text/text.js").Text} text
+   * @param {import("./host_link.js").Link} link
    * @param {import("./book_host.js").BookHost} server */
   constructor(text, link, server) {
     this.text = text;
@@ -188,7 +188,7 @@ export class Seen {
   }
 
   /** The host's text changed: what is known of it is at other lines.
-   * @type {(edit: import("./rows.js").Edit) => void} */
+   * @type {(edit: import("./finding_rows.js").Edit) => void} */
   change({ start, stop, lines }) {
     const move = { start, stop, count: lines.length };
     this.rows = movedRows(this.rows, move);

@@ -1,8 +1,8 @@
 // The text that the server has, as far as this window knows, and the texts before it: what two windows have in common.
 
-import { difference, replaced } from "./lines.js";
-import { mergedLines } from "./merging.js";
-import { withMoves } from "./moves.js";
+import { difference, replaced } from "../text/line_edits.js";
+import { withMoves } from "../text/moved_lines.js";
+import { mergedLines } from "../text/three_way_merge.js";
 
 /** Which edits a text has in it: by author, how many. An author is a window, or a run of the server for what came from disk.
  * @typedef {Record<string, number>} Edits

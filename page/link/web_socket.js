@@ -7,7 +7,7 @@
 
 const MOST = 30_000; // characters of a message; the server takes four bytes of each
 const NUMBER = 4; // bytes before a file
-const OK = 200; // a status
+export const OK = 200; // a status
 
 export class Socket {
   /** @param {string} address

@@ -1,24 +1,27 @@
 // Bars and beats of a tune in ticks. Bars have the numbers that a musician counts: a pickup is not counted, a repeated bar keeps its
 // number, and a second ending has those of the first.
 
-import { secondOf } from "./midi.js";
-import { countBefore } from "./rows.js";
-import { isBefore } from "./tune_words.js";
+import { countBefore } from "../base/binary_search.js";
+import { secondOf } from "./midi_file.js";
+import { isBefore } from "./tune_text.js";
 
-/** @typedef {import("./seen.js").Entry} Entry
+/** @typedef {import("../link/tokens_and_plays.js").Entry} Entry
  * @typedef {{ over: number, under: number }} Meter
- * A bar that is played: where it begins, its number, how much of its begin is missing (of a pickup), its meter, the pass.
- * @typedef {{ tick: number, number: number, offset: number, meter: Meter | null, pass: number }} Bar
+ * A bar that is played: where it begins, its number, how much of its begin is missing (of a pickup), its meter, the pass, and the ticks
+ * of the beat that its tempo names, if it does.
+ * @typedef {{ tick: number, number: number, offset: number, meter: Meter | null, pass: number, told: number | null }} Bar
  * What is played without a bar line in it: its place in the text and its section, its ticks, and whether it may be a pickup.
- * @typedef {{ place: string, section: number, start: number, length: number, isSoft: boolean }} Span */
+ * @typedef {{ place: string, section: number, start: number, length: number, isSoft: boolean, beat: number | null }} Span */
+
+const QUARTER = 480; // ticks
 
 /** The ticks of a measure, 0 in free meter.
  * @type {(meter: Meter | null) => number} */
-const measureOf = (meter) => (meter ? (1920 * meter.over) / meter.under : 0);
+const measureOf = (meter) => (meter ? (4 * QUARTER * meter.over) / meter.under : 0);
 
 /** The bars that a voice plays, from the place of each on. Each has the number that follows that of the bar played before it in its
  * section, so an ending has the numbers of the one that it replaces. Sections are numbered in the order of the text.
- * @type {(entries: Entry[], words: import("./tune_words.js").TuneWords, meters: import("./midi.js").Meter[]) => Bar[]} */
+ * @type {(entries: Entry[], words: import("./tune_text.js").TuneWords, meters: import("./midi_file.js").Meter[]) => Bar[]} */
 export function playedBars(entries, words, meters) {
   /** @type {Map<string, { number: number, offset: number }>} */
   const written = new Map(); // by place: the number in its section, and what is missing of a pickup
@@ -28,13 +31,13 @@ export function playedBars(entries, words, meters) {
   /** @type {Bar[]} */
   const bars = [];
   let before = { section: -1, number: 0 };
-  for (const { place, section, start, length, isSoft } of spans) {
+  for (const { place, section, start, length, isSoft, beat } of spans) {
     const meter = meters.findLast(({ tick }) => tick <= start) ?? null, whole = measureOf(meter);
     const isPickup = isSoft && length < whole, last = before.section === section ? before.number : 0;
     const bar = written.get(place) ?? (isPickup ? { number: last, offset: whole - length } : { number: last + 1, offset: 0 });
     written.set(place, bar);
     most[section] = Math.max(most[section] ?? 0, bar.number);
-    bars.push({ tick: start, ...bar, meter, pass: 1 });
+    bars.push({ tick: start, ...bar, meter, pass: 1, told: beat && beat * QUARTER });
     before = { section, number: bar.number };
   }
   /** @type {Map<string, number>} */
@@ -50,7 +53,7 @@ export function playedBars(entries, words, meters) {
 
 /** What a voice plays between bar lines, and from one section to the next. What comes after a bar line that is not a thin line alone, or
  * opens a section, is soft: it may be a pickup.
- * @type {(entries: Entry[], words: import("./tune_words.js").TuneWords) => Span[]} */
+ * @type {(entries: Entry[], words: import("./tune_text.js").TuneWords) => Span[]} */
 function spansOf(entries, words) {
   /** @type {Span[]} */
   const spans = [];
@@ -67,7 +70,7 @@ function spansOf(entries, words) {
     if (opens || isBar || (before && isBefore(entry, before))) {
       if (last) last.length = Math.min(entry.on, last.start + last.length) - last.start;
       if (last?.length === 0) spans.pop();
-      spans.push({ place: `${entry.line} ${entry.from}`, section, start: entry.on, length: 0, isSoft: isSoft || opens });
+      spans.push({ place: `${entry.line} ${entry.from}`, section, start: entry.on, length: 0, isSoft: isSoft || opens, beat: words.beatAt(entry) });
       [isSoft, isBar] = [false, false];
     }
     const span = spans[spans.length - 1];
@@ -77,12 +80,14 @@ function spansOf(entries, words) {
   return spans;
 }
 
-/** The ticks of a beat: in compound meters three of the lower number, else one.
- * @type {(meter: Meter | null, division: number) => number} */
-export function beatOf(meter, division) {
-  if (!meter) return division;
-  const isCompound = meter.over > 3 && meter.over % 3 === 0 && meter.under >= 8;
-  return ((4 * division) / meter.under) * (isCompound ? 3 : 1);
+/** The ticks of a beat: those of the beat that the tempo names, if a bar is some of those; else in compound meters three of the lower
+ * number, and in others one. In compound meters no other beats are counted.
+ * @type {(meter: Meter | null, division: number, told?: number | null) => number} */
+export function beatOf(meter, division, told = null) {
+  if (!meter) return told ?? division;
+  const isCompound = meter.over > 3 && meter.over % 3 === 0 && meter.under >= 8, lower = (4 * division) / meter.under;
+  const isCounted = told !== null && (meter.over * lower) % told === 0 && (!isCompound || told === lower || told === 3 * lower);
+  return isCounted ? told : lower * (isCompound ? 3 : 1);
 }
 
 export class Grid {
@@ -107,10 +112,10 @@ export class Grid {
   }
 
   /** The grid by the meters of a file alone.
-   * @type {(score: import("./midi.js").Score) => Grid} */
+   * @type {(score: import("./midi_file.js").Score) => Grid} */
   static ofMeters({ bars, meters, end, division }) {
     const meterAt = (/** @type {number} */ tick) => meters.findLast((meter) => meter.tick <= tick) ?? null;
-    return new Grid(bars.slice(0, -1).map((tick, n) => ({ tick, number: n + 1, offset: 0, meter: meterAt(tick), pass: 1 })), end, division);
+    return new Grid(bars.slice(0, -1).map((tick, n) => ({ tick, number: n + 1, offset: 0, meter: meterAt(tick), pass: 1, told: null })), end, division);
   }
 
   /** How many bars are played, pickups aside. */
@@ -138,8 +143,8 @@ export class Grid {
   /** The ticks of the beats of the bar at a place of the list.
    * @type {(place: number) => number[]} */
   beatsOf(place) {
-    const { tick, offset, meter } = this.bars[place], end = this.endOf(place);
-    const beat = beatOf(meter, this.division), beats = [tick];
+    const { tick, offset, meter, told } = this.bars[place], end = this.endOf(place);
+    const beat = beatOf(meter, this.division, told), beats = [tick];
     for (let at = tick + beat - (offset % beat); at < end; at += beat) beats.push(at);
     return beats;
   }
@@ -156,9 +161,9 @@ export class Grid {
   }
 
   /** How many beats a minute has at a tick.
-   * @type {(tick: number, score: import("./midi.js").Score) => number} */
+   * @type {(tick: number, score: import("./midi_file.js").Score) => number} */
   tempoAt(tick, score) {
-    const beat = beatOf(this.barAt(tick)?.meter ?? null, this.division);
+    const bar = this.barAt(tick), beat = beatOf(bar?.meter ?? null, this.division, bar?.told);
     return 60 / (secondOf(score, tick + beat) - secondOf(score, tick));
   }
 
@@ -167,7 +172,7 @@ export class Grid {
   momentOf(tick) {
     const bar = this.barAt(tick);
     if (!bar) return { bar: 0, beat: 1, pass: 1 };
-    const beat = Math.floor((tick - bar.tick + bar.offset) / beatOf(bar.meter, this.division)) + 1;
+    const beat = Math.floor((tick - bar.tick + bar.offset) / beatOf(bar.meter, this.division, bar.told)) + 1;
     return { bar: bar.number, beat, pass: bar.pass };
   }
 
@@ -191,7 +196,7 @@ export class Grid {
    * @type {(tick: number) => import("./player.js").CountIn} */
   countIn(tick) {
     const bar = this.barAt(tick), meter = bar?.meter ?? null;
-    const beat = beatOf(meter, this.division), measure = measureOf(meter) || 4 * this.division;
+    const beat = beatOf(meter, this.division, bar?.told), measure = measureOf(meter) || 4 * this.division;
     const before = bar && meter ? (tick - bar.tick + bar.offset) % measure : 0;
     const clicks = [];
     for (let at = 0; at < measure + before; at += beat) clicks.push({ at, isFirst: at === 0 || at === measure });

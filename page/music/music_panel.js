@@ -1,25 +1,27 @@
 // The music of a tune: its file in the roll, what plays it, and what is said of it.
 
-import { find } from "./elements.js";
-import { Follower } from "./follower.js";
-import { Font } from "./font.js";
+import { find } from "../base/elements.js";
+import { FingeringRow } from "./fingering_row.js";
+import { Roll } from "./piano_roll.js";
+import { MediaKeys } from "./media_session.js";
 import { Player } from "./player.js";
 import { Practice } from "./practice.js";
-import { Roll } from "./roll.js";
 import { ShownTune } from "./shown_tune.js";
+import { Font } from "./sound_font.js";
+import { Follower } from "./text_follower.js";
 import { Transport } from "./transport.js";
 import { TuneBar } from "./tune_bar.js";
 
-/** @typedef {import("./rows.js").TuneRow} TuneRow
+/** @typedef {import("../link/finding_rows.js").TuneRow} TuneRow
  * `say` shows a sentence.
  * @typedef {object} Parts
- * @property {import("./book_host.js").BookHost} server
- * @property {import("./link.js").Link} link
- * @property {import("./sheet.js").Sheet} sheet
- * @property {import("./findings.js").Findings} findings
- * @property {import("./seen.js").Seen} seen
- * @property {import("./caret_tune.js").CaretTune} caretTune
- * @property {import("./tip.js").Tip} tip
+ * @property {import("../link/book_host.js").BookHost} server
+ * @property {import("../link/host_link.js").Link} link
+ * @property {import("../editor/text_sheet.js").Sheet} sheet
+ * @property {import("../link/findings.js").Findings} findings
+ * @property {import("../link/tokens_and_plays.js").Seen} seen
+ * @property {import("../tunes/caret_tune.js").CaretTune} caretTune
+ * @property {import("../base/tooltip.js").Tip} tip
  * @property {(words: string) => void} say */
 
 export class Music {
@@ -31,14 +33,25 @@ export class Music {
     this.player = new Player();
     this.player.font = this.font = new Font(server);
     this.follower = new Follower(sheet.text, sheet, this.roll, seen, () => this.shown.inBook);
+    const fingering = new FingeringRow((note) => this.follower.noteName(note));
+    this.follower.noted = (notes) => fingering.see(notes);
     this.practice = new Practice(this.player, this.roll, this.follower);
     this.transport = new Transport(this.shown, this.player, this.roll, this.follower, this.practice);
+    this.player.turned = (score) => this.turned(score);
+    /** @type {(score: import("./midi_file.js").Score) => void} */
+    this.turned = () => {}; // another score of the player is heard
     this.bar = new TuneBar(this.shown, this.roll, this.follower);
+    const acts = { playOrStop: () => this.transport.playOrStop(), step: (/** @type {boolean} */ isForward) => this.transport.step(isForward) };
+    this.keys = new MediaKeys(acts, () => ({ title: this.row?.[2] || "abc2midi_live", album: document.title }));
+    this.transport.played = (isPlaying) => this.keys.show(isPlaying);
     this.practice.say = say;
+    this.player.refused = () => say("The browser lets nothing sound now: play again.");
     this.came = () => {}; // a score is there, or there is none
+    this.isOther = false; // the tune that was asked for is another one than that in the roll
     this.shown.asks = (isOther) => {
       seen.want({ tune: this.shown.number ?? null });
       this.transport.rewind(isOther);
+      this.isOther ||= isOther;
     };
     seen.hearers.push(() => this.practice.hear());
     this.practice.renewed = () => this.describe();
@@ -73,6 +86,8 @@ export class Music {
   take() {
     const { shown, player } = this;
     this.practice.show(shown.score, shown.owner);
+    if (this.isOther) this.roll.scroller.scrollTo(0, 0);
+    this.isOther = false;
     if (player.playing) this.transport.change();
     else this.bar.explain(this.caretTune.row);
     this.describe();

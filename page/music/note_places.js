@@ -1,13 +1,13 @@
 // The places of a tune's notes in its text: each entry of the tune's play beside the note of its file. If a play and a file differ, as
 // when one of them is older, nothing has a place from the first difference on.
 
-import { Grid, playedBars } from "./grid.js";
-import { countBefore } from "./rows.js";
+import { countBefore } from "../base/binary_search.js";
+import { Grid, playedBars } from "./bars_and_beats.js";
 
-/** @typedef {import("./midi.js").Score} Score
- * @typedef {import("./midi.js").Note} Note
- * @typedef {import("./seen.js").Entry} Entry
- * @typedef {import("./tune_words.js").TuneWords} TuneWords
+/** @typedef {import("./midi_file.js").Score} Score
+ * @typedef {import("./midi_file.js").Note} Note
+ * @typedef {import("../link/tokens_and_plays.js").Entry} Entry
+ * @typedef {import("./tune_text.js").TuneWords} TuneWords
  * @typedef {{ from: number, to: number }} Span of columns
  * A tone of the text, and the note of the score that it sounds in; null if it is silent.
  * @typedef {{ entry: Entry, note: Note | null }} Tone
@@ -17,7 +17,7 @@ import { countBefore } from "./rows.js";
  * @typedef {{ until: number, moments: Moment[], entries: Entry[] }} KnownVoice */
 
 export class Places {
-  /** @param {import("./seen.js").Play | null} play
+  /** @param {import("../link/tokens_and_plays.js").Play | null} play
    * @param {TuneWords} words
    * @param {Score} score */
   constructor(play, words, score) {
@@ -99,7 +99,7 @@ export class Places {
 
   /** What is at a place of the text, one for each time that it is played: in the token that the place is in, else in the one that ends
    * there. `tokens` are those of the line, null if they are not known.
-   * @type {(line: number, column: number, tokens?: import("./seen.js").Token[] | null) => Moment[]} */
+   * @type {(line: number, column: number, tokens?: import("../link/tokens_and_plays.js").Token[] | null) => Moment[]} */
   under(line, column, tokens = null) {
     const own = this.inLine(line);
     /** @type {Span[]} */
@@ -110,7 +110,7 @@ export class Places {
   }
 
   /** The notes of the score at a place: in a chord those of the tone at the place, if there is one.
-   * @type {(line: number, column: number, tokens?: import("./seen.js").Token[] | null) => Set<Note>} */
+   * @type {(line: number, column: number, tokens?: import("../link/tokens_and_plays.js").Token[] | null) => Set<Note>} */
   notesUnder(line, column, tokens = null) {
     const tones = this.under(line, column, tokens).flatMap((moment) => moment.tones);
     const own = tones.filter(({ entry }) => entry.from <= column && column < entry.to);
@@ -118,7 +118,7 @@ export class Places {
   }
 
   /** The tick at which what is at a place, else what follows it in its voice, is played first; null if that is not known.
-   * @type {(line: number, column: number, tokens?: import("./seen.js").Token[] | null) => number | null} */
+   * @type {(line: number, column: number, tokens?: import("../link/tokens_and_plays.js").Token[] | null) => number | null} */
   tickFrom(line, column, tokens = null) {
     const own = this.inLine(line);
     const moment = this.under(line, column, tokens)[0] ?? own.find(({ to }) => to > column);
@@ -132,7 +132,19 @@ export class Places {
   /** From which tick to which the lines from..to are played first, without others between; null if that is not known.
    * @type {(from: number, to: number) => [from: number, to: number] | null} */
   rangeOf(from, to) {
-    const inside = (/** @type {Moment} */ { line }) => from <= line && line <= to;
+    return this.rangeOfThose(({ line }) => from <= line && line <= to);
+  }
+
+  /** From which tick to which the notes and rests between two places are played first, without others between; null if that is not known.
+   * @type {(start: import("../text/selection.js").Place, end: import("../text/selection.js").Place) => [from: number, to: number] | null} */
+  rangeBetween(start, end) {
+    const isAfter = (/** @type {Moment} */ { line, to }) => line > start.line || (line === start.line && to > start.column);
+    return this.rangeOfThose((one) => isAfter(one) && (one.line < end.line || (one.line === end.line && one.from < end.column)));
+  }
+
+  /** From which tick to which some moments are played first, without others between; null if there are none.
+   * @type {(inside: (moment: Moment) => boolean) => [from: number, to: number] | null} */
+  rangeOfThose(inside) {
     const ranges = this.voices.flatMap(({ moments }) => {
       const first = moments.findIndex(inside), after = moments.findIndex((moment, n) => n > first && !inside(moment));
       return first < 0 ? [] : [[moments[first].start, moments[after < 0 ? moments.length - 1 : after - 1].end]];

@@ -1,15 +1,15 @@
 // A tune as a piano roll: pitch by time, a colour for each voice, bars and beats. This part has the measures, the mouse and the keys;
-// what is seen is drawn by roll_picture.js.
+// what is seen is drawn by piano_roll_picture.js.
 
-import { onceAFrame } from "./frames.js";
-import { Grid } from "./grid.js";
-import { lanesOf } from "./lanes.js";
-import { onResize } from "./resizing.js";
-import { FOOT, HEAD, SIDE, drawRoll, nameOf } from "./roll_picture.js";
-import { Shades } from "./shades.js";
+import { onResize } from "../base/on_resize.js";
+import { onceAFrame } from "../base/once_a_frame.js";
+import { Grid } from "./bars_and_beats.js";
+import { FOOT, HEAD, SIDE, drawRoll } from "./piano_roll_picture.js";
+import { lanesOf } from "./unison_lanes.js";
+import { Shades } from "./voice_colours.js";
 
-/** @typedef {import("./midi.js").Score} Score
- * @typedef {import("./midi.js").Note} Note */
+/** @typedef {import("./midi_file.js").Score} Score
+ * @typedef {import("./midi_file.js").Note} Note */
 
 const QUARTER = 44, NARROWEST = 8, WIDEST = 360; // pixels of a quarter note
 const LEAST_ROW = 5, MOST_ROW = 26; // pixels of a key
@@ -19,8 +19,6 @@ const LOWEST = 58, HIGHEST = 74; // keys that are drawn without a tune
 /** @type {Record<string, number>} */
 const ZOOMS = { "+": 1, "=": 1, "-": -1, 0: 0 }; // by key: steps
 const DRAG = 6; // pixels that make a click a stretch
-
-export { nameOf };
 
 export class Roll {
   /** @param {HTMLElement} scroller
@@ -46,7 +44,7 @@ export class Roll {
     /** @type {{ from: number, range: [from: number, to: number] | null } | null} */
     this.dragged = null;
     this.soon = onceAFrame(() => drawRoll(this)); // draws
-    /** @type {Map<Note, import("./lanes.js").Lane>} */
+    /** @type {Map<Note, import("./unison_lanes.js").Lane>} */
     this.lanes = new Map();
     /** @type {Set<Note>} */
     this.pointedAt = new Set(); // notes of the caret

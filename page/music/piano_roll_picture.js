@@ -1,11 +1,11 @@
 // The picture of a piano roll: what is seen of it is drawn on its canvas.
 
-/** @typedef {import("./roll.js").Roll} Roll
+/** @typedef {import("./piano_roll.js").Roll} Roll
  * What is drawn: a roll on a pen, its score and its bars, its size in pixels, and where keys and ticks are.
  * @typedef {object} View
  * @property {Roll} roll
- * @property {import("./midi.js").Score} score
- * @property {import("./grid.js").Grid} grid
+ * @property {import("./midi_file.js").Score} score
+ * @property {import("./bars_and_beats.js").Grid} grid
  * @property {CanvasRenderingContext2D & { roundRect: (...box: number[]) => void }} pen
  * @property {number} wide
  * @property {number} high

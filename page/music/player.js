@@ -1,17 +1,19 @@
 // Plays a score by Web Audio: notes are scheduled a moment before they sound.
 
-import { secondOf, tickOf } from "./midi.js";
-import { soundClick, soundNote } from "./sounds.js";
+import { secondOf, tickOf } from "./midi_file.js";
+import { soundClick, soundNote } from "./synth_sounds.js";
 
-/** @typedef {import("./midi.js").Score} Score
- * @typedef {import("./midi.js").Note} Note
+/** @typedef {import("./midi_file.js").Score} Score
+ * @typedef {import("./midi_file.js").Note} Note
  * A stretch of a score: from a tick, which sounds at a time.
  * @typedef {{ score: Score, tick: number, time: number }} Start
  * @typedef {Start & { speed: number }} Leg
  * A note that is scheduled, with the tick at which it ends.
- * @typedef {import("./sounds.js").Sound & { last: number }} Sounding
+ * @typedef {import("./synth_sounds.js").Sound & { last: number }} Sounding
  * A click at a tick, which is the first of its bar or not.
  * @typedef {{ at: number, isFirst: boolean }} Click
+ * Some browsers have an `audioSession`.
+ * @typedef {{ audioSession?: { type: string } }} Machine
  * The clicks of a count-in and how long they last, in ticks.
  * @typedef {{ length: number, clicks: Click[] }} CountIn */
 
@@ -21,6 +23,7 @@ const SOON = 0.02; // seconds from a press of the button to the first note
 const MOST_LEGS = 64; // rounds of a loop scheduled at once
 const MOST_SPEED = 2; // to which rounds of a loop rise
 const TOUCHED = 1.5; // seconds for which a note sounds at most that someone points at
+const PATIENCE = 3000; // milliseconds for the sound system to begin
 const FADE = 0.02, FADED = 200; // seconds in which what sounds fades away, milliseconds after which its way is taken down
 
 /** The time at which a tick of a leg sounds.
@@ -46,6 +49,15 @@ export class Player {
     /** @type {{ score: Score, tick: number } | null} */
     this.next = null; // a score that takes over at a bar: { score, tick }
     this.speed = 1;
+    this.shift = 0; // semitones by which what is heard is higher
+    /** @type {number | null} */
+    this.until = null; // the tick at which a selection ends
+    /** @type {Score[]} */
+    this.queue = []; // the scores that follow, one after another
+    /** @type {(score: Score) => void} */
+    this.turned = () => {}; // another score is heard
+    /** @type {{ clicks: Click[], start: number, each: number } | null} */
+    this.count = null; // the clicks of the count-in, the time of the first, and the seconds of a tick
     this.rise = 0; // what each round of a loop adds to the speed
     /** @type {(speed: number) => void} */
     this.rose = () => {};
@@ -68,13 +80,15 @@ export class Player {
     this.timer = null;
     /** @type {AudioContext | null} */
     this.opened = null;
-    /** @type {import("./font.js").Font | null} */
+    /** @type {import("./sound_font.js").Font | null} */
     this.font = null; // sampled instruments; without it the sounds are plain
     /** @type {GainNode | null} */
     this.way = null; // to the loudspeaker
     /** @type {(tick: number) => void} */
     this.moved = () => {};
     this.ended = () => {};
+    this.refused = () => {}; // the sound system does not begin
+    this.plays = 0; // how often someone asked for a tune, or for silence
     document.addEventListener("visibilitychange", () => this.timer && this.look());
   }
 
@@ -82,21 +96,42 @@ export class Player {
     return this.score !== null;
   }
 
-  /** Plays a score from a tick on, after the clicks of a count-in.
+  /** Plays a score from a tick on, after the clicks of a count-in, up to a tick or its end.
    * @param {Score} score
    * @param {number} tick
-   * @param {CountIn | null} count */
-  async play(score, tick = 0, count = null) {
+   * @param {CountIn | null} count
+   * @param {number | null} until */
+  async play(score, tick = 0, count = null, until = null) {
     this.stop();
+    this.until = until;
+    const play = (this.plays += 1);
     this.enter({ score, tick: this.inLoop(tick), time: this.audio.currentTime });
-    await this.audio.resume();
-    await this.font?.load(this.audio, score.notes);
-    if (this.score === score) this.begin(score, tick, count);
+    const isRunning = await this.resume();
+    if (isRunning) await this.font?.load(this.audio, score.notes.map((note) => this.shifted(note)));
+    if (this.plays !== play) return;
+    if (isRunning) return this.begin(score, tick, count);
+    this.end();
+    this.refused();
   }
 
   /** The sound system, which browsers let begin when someone asks for sound. */
   get audio() {
-    return (this.opened ??= new AudioContext());
+    return (this.opened ??= this.open());
+  }
+
+  /** Opens the sound system. If it is interrupted, as by a call, the tune stops. */
+  open() {
+    const audio = new AudioContext(), machine = /** @type {Machine | undefined} */ (globalThis.navigator);
+    if (machine?.audioSession) machine.audioSession.type = "playback"; // a telephone plays although it is silenced for calls
+    audio.onstatechange = () => this.timer && audio.state !== "running" && this.stop();
+    return audio;
+  }
+
+  /** Lets the sound system begin; whether it does. */
+  async resume() {
+    const { audio } = this, begun = audio.resume().catch(() => {});
+    if (audio.state !== "running") await Promise.race([begun, new Promise((done) => setTimeout(done, PATIENCE))]);
+    return audio.state === "running";
   }
 
   /** What the notes of all voices go through. */
@@ -121,6 +156,7 @@ export class Player {
     const from = this.inLoop(tick), now = this.audio.currentTime + SOON;
     const each = (secondOf(score, from + 1) - secondOf(score, from)) / this.speed;
     for (const { at, isFirst } of count?.clicks ?? []) soundClick(this.audio, now + at * each, isFirst, this.out);
+    this.count = count && { clicks: count.clicks, start: now, each };
     this.legs = [];
     this.next = null;
     this.scheduled = now;
@@ -134,7 +170,8 @@ export class Player {
   seek(tick) {
     if (!this.timer || !this.score) return;
     this.hush();
-    this.begin(this.score, tick, null);
+    if (this.until !== null && tick >= this.until) this.until = null;
+    this.begin(this.leg.score, tick, null);
   }
 
   /** Adds a leg after the last one; `at` is the place of its first note.
@@ -153,6 +190,20 @@ export class Player {
     return this.legs.findLast(({ time }) => time <= now) ?? this.legs[0];
   }
 
+  /** The number of the beat of a count-in that is heard now, from 1 on in each bar; 0 without one. */
+  get counted() {
+    const { count, legs } = this;
+    if (!count || !legs.length || this.heard >= legs[0].time) return 0;
+    const begun = count.clicks.filter(({ at }) => count.start + at * count.each <= this.heard + 1e-6);
+    return begun.length - Math.max(0, begun.findLastIndex(({ isFirst }) => isFirst));
+  }
+
+  /** A note as it is heard. MIDI has 128 keys, and a drum has no pitch.
+   * @type {(note: Note) => Note} */
+  shifted(note) {
+    return this.shift && !note.drum ? { ...note, key: Math.max(0, Math.min(127, note.key + this.shift)) } : note;
+  }
+
   /** The tick that is heard now. */
   get tick() {
     return Math.max(this.leg.tick, tickIn(this.leg, this.heard));
@@ -163,30 +214,35 @@ export class Player {
     return this.legs[this.legs.length - 1];
   }
 
-  /** Where the last leg ends, and what follows it: nothing at the end of the tune. A changed score comes in at its bar, or at the
-   * next round of the loop. */
+  /** Where the last leg ends, and what follows it: nothing at the end of the last tune, or of a selection. A changed score comes in at
+   * its bar, or at the next round of the loop. */
   get stopping() {
     const { score, tick } = this.latest;
     const loopEnd = this.loop && tick < this.loop[1] ? Math.min(this.loop[1], score.end) : Infinity;
     const goesRound = this.loop && loopEnd < Infinity && !(this.next && this.next.tick < loopEnd);
-    const follow = goesRound && this.loop ? { score: this.next?.score ?? score, tick: this.loop[0] } : this.next;
-    const stop = goesRound ? loopEnd : (this.next?.tick ?? score.end);
-    return { stop, follow: follow && follow.tick < follow.score.end ? follow : null, goesRound };
+    if (goesRound && this.loop) return { stop: loopEnd, follow: { score: this.next?.score ?? score, tick: this.loop[0] }, goesRound, isOther: false };
+    const stop = this.next?.tick ?? score.end, { until, next } = this, [other] = this.queue;
+    if (until !== null && until <= stop) return { stop: until, follow: null, goesRound: false, isOther: false };
+    const changed = next && next.tick < next.score.end ? next : null;
+    return { stop, follow: changed ?? (other ? { score: other, tick: 0 } : null), goesRound: false, isOther: !changed };
   }
 
   /** Hands over the notes that sound soon, leg by leg. */
   look() {
     const now = this.audio.currentTime, until = now + (document.hidden ? AHEAD_HIDDEN : AHEAD);
     for (let n = 0; n < MOST_LEGS; n += 1) {
-      const { stop, follow, goesRound } = this.stopping, end = timeIn(this.latest, stop);
+      const { stop, follow, goesRound, isOther } = this.stopping, end = timeIn(this.latest, stop);
       this.hand(Math.min(until, end), stop);
       if (!follow && this.heard >= end) return this.end();
       if (!follow || until < end) break;
       this.next = null;
+      if (isOther) this.queue.shift();
       if (goesRound) this.speedUp();
       this.enter({ ...follow, time: end });
     }
-    this.legs = this.legs.slice(this.legs.indexOf(this.leg));
+    const { leg } = this, [before] = this.legs;
+    this.legs = this.legs.slice(this.legs.indexOf(leg));
+    if (leg.score !== before.score) this.turned(leg.score);
     this.sounding = this.sounding.filter(({ off }) => off > now);
     this.moved(this.tick);
   }
@@ -205,7 +261,7 @@ export class Player {
     for (let n = 0; n < LONGEST && this.at < notes.length; n += 1) {
       const note = notes[this.at], start = timeIn(leg, note.start);
       if (start >= until || note.start >= stop) break;
-      const last = this.loop && !this.next ? Math.min(note.end, stop) : note.end;
+      const last = (this.loop && !this.next) || this.until !== null ? Math.min(note.end, stop) : note.end;
       this.sound(note, start, timeIn(leg, last), last);
       this.at += 1;
     }
@@ -218,8 +274,9 @@ export class Player {
   /** The score was changed: what follows from the next bar on that is not scheduled is that of the new one.
    * @type {(score: Score) => void} */
   change(score) {
-    if (!this.score || !this.timer) return;
-    this.font?.load(this.audio, score.notes);
+    if (!this.score || !this.timer || score === this.score) return;
+    void this.font?.load(this.audio, score.notes.map((note) => this.shifted(note)));
+    this.queue = this.queue.map((one) => (one === this.score ? score : one));
     const { bars, notes, end } = this.score;
     const soon = tickIn(this.latest, this.audio.currentTime + AHEAD);
     const tick = bars.find((bar) => bar >= soon) ?? end;
@@ -283,8 +340,8 @@ export class Player {
   /** One note from a time to a time; `last` is the tick at which it ends.
    * @type {(note: Note, start: number, end: number, last: number) => void} */
   sound(note, start, end, last) {
-    const from = Math.max(start, this.audio.currentTime), out = this.outOf(note.voice);
-    const sound = this.font?.sound(this.audio, note, from, end, out) ?? soundNote(this.audio, note, from, end, out);
+    const from = Math.max(start, this.audio.currentTime), out = this.outOf(note.voice), heard = this.shifted(note);
+    const sound = this.font?.sound(this.audio, heard, from, end, out) ?? soundNote(this.audio, heard, from, end, out);
     this.sounding.push(Object.assign(sound, { last }));
   }
 
@@ -292,9 +349,10 @@ export class Player {
    * @type {(score: Score, notes: Note[]) => Promise<void>} */
   async touch(score, notes) {
     if (this.playing || !notes.length) return;
-    await this.audio.resume();
-    await this.font?.load(this.audio, notes);
-    if (this.playing) return;
+    const { plays } = this;
+    if (!(await this.resume())) return;
+    await this.font?.load(this.audio, notes.map((note) => this.shifted(note)));
+    if (this.plays !== plays) return;
     const now = this.audio.currentTime, leg = { score, tick: 0, time: now, speed: this.speed };
     for (const note of notes) this.sound(note, now, now + Math.min(TOUCHED, timeIn(leg, note.end) - timeIn(leg, note.start)), note.end);
   }
@@ -326,8 +384,10 @@ export class Player {
   /** Plays no more. Notes that are dying away do so. */
   end() {
     clearInterval(this.timer ?? undefined);
-    this.timer = this.score = this.next = null;
+    this.plays += 1;
+    this.timer = this.score = this.next = this.until = this.count = null;
     this.legs = [];
+    this.queue = [];
     this.ended();
   }
 }

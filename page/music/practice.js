@@ -1,17 +1,17 @@
 // What one practises with: tempo, loop, count-in, voices, and playing from the caret.
 
-import { field, find, show, write } from "./elements.js";
-import { momentName } from "./follower.js";
+import { field, find, show, write } from "../base/elements.js";
+import { momentName } from "./text_follower.js";
 
 const REST = 100; // milliseconds after the last key
 
-/** @typedef {import("./midi.js").Score} Score
+/** @typedef {import("./midi_file.js").Score} Score
  * @typedef {[from: number, to: number]} Range of ticks */
 
 export class Practice {
   /** @param {import("./player.js").Player} player
-   * @param {import("./roll.js").Roll} roll
-   * @param {import("./follower.js").Follower} follower */
+   * @param {import("./piano_roll.js").Roll} roll
+   * @param {import("./text_follower.js").Follower} follower */
   constructor(player, roll, follower) {
     this.player = player;
     this.roll = roll;
@@ -32,6 +32,8 @@ export class Practice {
     this.renewed = () => {}; // the bars or the names may be others
     /** @type {(tick: number) => void} */
     this.played = () => {}; // a tick: play from there
+    /** @type {(range: Range) => void} */
+    this.playedPart = () => {}; // play from a tick to a tick, once
     /** @type {(words: string) => void} */
     this.say = () => {};
     this.listen();
@@ -41,6 +43,7 @@ export class Practice {
     const on = (/** @type {string} */ id, /** @type {string} */ name, /** @type {() => void} */ act) => find(id).addEventListener(name, act);
     on("practise", "click", () => this.fold());
     on("from-caret", "click", () => this.fromCaret());
+    on("play-selection", "click", () => this.playSelection());
     on("tempo", "input", () => this.setTempo(Number(field("tempo").value)));
     on("full-tempo", "click", () => this.setTempo(100));
     on("looping", "change", () => this.setLoop());
@@ -120,11 +123,20 @@ export class Practice {
     follower.caret();
   }
 
-  /** How a tune begins: plays it, after a bar of clicks if that is wanted.
-   * @type {(score: Score, tick: number) => void} */
-  play(score, tick) {
+  /** How a tune begins: plays it, after a bar of clicks if that is wanted, up to a tick if one is given.
+   * @type {(score: Score, tick: number, until?: number | null) => void} */
+  play(score, tick, until = null) {
     const from = this.player.inLoop(tick);
-    this.player.play(score, from, (field("count-in").checked && this.roll.grid?.countIn(from)) || null);
+    this.player.play(score, from, (field("count-in").checked && this.roll.grid?.countIn(from)) || null, until);
+  }
+
+  /** Plays what is selected once, so without a loop. */
+  playSelection() {
+    const range = this.follower.ticksOfSelection;
+    if (!range) return this.say("Select notes in the text of this tune first.");
+    field("looping").checked = false;
+    this.setLoop();
+    this.playedPart(range);
   }
 
   fromCaret() {

@@ -21,8 +21,8 @@
  * @property {number} sustain
  * @property {number} release
  * @property {[first: number, later: number, seconds: number] | null} filter */
-/** @typedef {import("./midi.js").Note} Note
- * @typedef {import("./sounds.js").Sound} Sound */
+/** @typedef {import("./midi_file.js").Note} Note
+ * @typedef {import("./synth_sounds.js").Sound} Sound */
 
 const LOUD = 0.5, POWER = 1.5; // of a note of the velocity 127; by which power softer ones are softer
 const FALL = Math.log(1e5); // a decay or a release falls by 100 decibels

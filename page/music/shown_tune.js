@@ -1,20 +1,20 @@
 // The tune that is shown: its file, which the server has, as a score.
 
-import { scoreOf } from "./midi.js";
+import { scoreOf } from "./midi_file.js";
 
 const SOON = 50; // milliseconds after a change, so that the browser paints the answer to a key first
 
 export class ShownTune {
-  /** @param {import("./book_host.js").BookHost} server
-   * @param {import("./link.js").Link} link
-   * @param {import("./findings.js").Findings} findings */
+  /** @param {import("../link/book_host.js").BookHost} server
+   * @param {import("../link/host_link.js").Link} link
+   * @param {import("../link/findings.js").Findings} findings */
   constructor(server, link, findings) {
     this.server = server;
     this.link = link;
     this.findings = findings;
     /** @type {number | null | undefined} */
     this.number = null; // null without a file, undefined if the file may be another one
-    /** @type {import("./midi.js").Score | null} */
+    /** @type {import("./midi_file.js").Score | null} */
     this.score = null;
     /** @type {number | null} */
     this.owner = null; // the number of the score, while that of another number is read
@@ -44,6 +44,19 @@ export class ShownTune {
       return;
     }
     if (this.asked !== asked) return;
+    this.score = score;
+    this.owner = number;
+    this.came();
+  }
+
+  /** Shows a score of a number that was read already.
+   * @type {(number: number, score: import("./midi_file.js").Score) => void} */
+  put(number, score) {
+    this.asked += 1; // an answer that comes later is not shown
+    this.stopTimer();
+    const isOther = number !== this.number;
+    this.number = number;
+    this.asks(isOther);
     this.score = score;
     this.owner = number;
     this.came();
@@ -82,7 +95,7 @@ export class ShownTune {
   }
 
   /** The score with its number and its lines in the book; null without.
-   * @returns {import("./follower.js").TuneInBook | null} */
+   * @returns {import("./text_follower.js").TuneInBook | null} */
   get inBook() {
     const { score, owner, findings } = this, at = score ? findings.ownerOf(owner) : -1;
     return score && owner !== null && at >= 0 ? { score, number: owner, first: findings.tunes[at][0], last: findings.endOf(at) } : null;

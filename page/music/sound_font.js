@@ -1,10 +1,10 @@
 // The instruments of the server's SoundFont. What a tune needs of them is read when it is played first.
 
-import { isIn, soundSample } from "./sampled.js";
+import { isIn, soundSample } from "./sampled_sounds.js";
 
-/** @typedef {import("./midi.js").Note} Note
- * @typedef {import("./sampled.js").Zone} Zone
- * @typedef {import("./sounds.js").Sound} Sound */
+/** @typedef {import("./midi_file.js").Note} Note
+ * @typedef {import("./sampled_sounds.js").Zone} Zone
+ * @typedef {import("./synth_sounds.js").Sound} Sound */
 
 const INSTALL = "sudo apt install timgm6mb-soundfont";
 const PATIENCE = 1500; // milliseconds that a tune waits for its samples

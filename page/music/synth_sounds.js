@@ -1,6 +1,6 @@
 // The sounds of the player, made by Web Audio.
 
-/** @typedef {import("./midi.js").Note} Note
+/** @typedef {import("./midi_file.js").Note} Note
  * @typedef {{ wave: OscillatorType, rise: number, sink: number, left: number, die: number, bright: number }} Kind
  * @typedef {{ off: number, endAt: (time: number) => void }} Sound when a note ends, and what lets it end at another time */
 

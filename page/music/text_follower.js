@@ -1,17 +1,17 @@
 // The text and the roll follow each other: what sounds is marked in the text, the caret's notes are marked in the roll, and a note in
 // the roll leads to its place in the text. What has no known place is not marked.
 
-import { Places } from "./places.js";
-import { nameOf } from "./roll_picture.js";
-import { TuneWords } from "./tune_words.js";
+import { Places } from "./note_places.js";
+import { nameOf } from "./piano_roll_picture.js";
+import { TuneWords } from "./tune_text.js";
 
-/** @typedef {import("./midi.js").Score} Score
- * @typedef {import("./midi.js").Note} Note
+/** @typedef {import("./midi_file.js").Score} Score
+ * @typedef {import("./midi_file.js").Note} Note
  * The tune in the roll: its score, its number, and its lines first..last of the book.
  * @typedef {{ score: Score, number: number, first: number, last: number }} TuneInBook
- * @typedef {import("./tune_words.js").TextPlace} TextPlace
+ * @typedef {import("./tune_text.js").TextPlace} TextPlace
  * What the places were found of.
- * @typedef {{ score: Score | null, play: import("./seen.js").Play | null, lines: string[], first: number, own: string[], places: Places | null }} Known */
+ * @typedef {{ score: Score | null, play: import("../link/tokens_and_plays.js").Play | null, lines: string[], first: number, own: string[], places: Places | null }} Known */
 
 const PAUSE = 4000; // milliseconds for which the text stays where someone scrolls it
 const SOON = 80; // milliseconds after which the caret's notes are marked
@@ -22,10 +22,10 @@ const SIGNS = { "-2": "♭♭", "-1": "♭", 0: "", 1: "♯", 2: "♯♯" };
 
 export class Follower {
   /** `tune` gives the tune in the roll, or null.
-   * @param {import("./text.js").Text} text
-   * @param {import("./sheet.js").Sheet} sheet
-   * @param {import("./roll.js").Roll} roll
-   * @param {import("./seen.js").Seen} seen
+   * @param {import("../text/text.js").Text} text
+   * @param {import("../editor/text_sheet.js").Sheet} sheet
+   * @param {import("./piano_roll.js").Roll} roll
+   * @param {import("../link/tokens_and_plays.js").Seen} seen
    * @param {() => TuneInBook | null} tune */
   constructor(text, sheet, roll, seen, tune) {
     this.text = text;
@@ -43,6 +43,8 @@ export class Follower {
     this.picked = []; // where the caret's note is
     /** @type {(places: TextPlace[]) => void} */
     this.lit = () => {}; // hears of the places that sound
+    /** @type {(notes: Note[]) => void} */
+    this.noted = () => {}; // hears of the notes that sound, else of those at the caret
     this.layer = Object.assign(document.createElement("div"), { className: "sounding", ariaHidden: "true" });
     sheet.here.after(this.layer);
     sheet.layers.push(this);
@@ -83,12 +85,14 @@ export class Follower {
   /** Marks what sounds at a tick, or nothing.
    * @type {(tick: number | null) => void} */
   sound(tick) {
-    const sounding = (tick === null ? [] : this.places?.at(tick) ?? []).map((moment) => this.tokenAt(moment));
+    const moments = tick === null ? [] : (this.places?.at(tick) ?? []), sounding = moments.map((moment) => this.tokenAt(moment));
     if (JSON.stringify(sounding) === JSON.stringify(this.sounding)) return;
     this.sounding = sounding;
     this.draw();
     this.reveal();
     this.lit(sounding);
+    if (sounding.length) this.noted(moments.flatMap(({ tones }) => tones.flatMap(({ note }) => note ?? [])));
+    else this.caretSoon();
   }
 
   /** Keeps in view what sounds, unless someone is at the text. */
@@ -98,7 +102,7 @@ export class Follower {
     sheet.reveal(Math.max(...lines));
     sheet.reveal(Math.min(...lines));
     sheet.look();
-    this.layer.querySelector(".note i")?.scrollIntoView({ block: "nearest", inline: "nearest" });
+    sheet.showMark(this.layer.querySelector(".note i"));
   }
 
   /** Marks lines and places in the text. */
@@ -117,7 +121,9 @@ export class Follower {
    * @param {TextPlace} [place] */
   row(line, className, place) {
     const row = Object.assign(document.createElement("div"), { className });
-    row.style.top = `${(line - this.sheet.first) * this.sheet.height}px`;
+    const top = this.sheet.topInArea(line);
+    row.style.top = `${top}px`;
+    row.style.height = `${this.sheet.topInArea(line + 1) - top}px`;
     if (!place) return row;
     const words = this.text.lines[line] ?? "", mark = document.createElement("i");
     mark.textContent = words.slice(place.from, place.to);
@@ -139,7 +145,9 @@ export class Follower {
     const isSelected = JSON.stringify(this.sheet.selection().start) !== JSON.stringify(this.sheet.selection().end);
     const tokens = this.seen.tokensOf(line), moments = places && !isSelected ? places.under(line, column, tokens) : [];
     this.picked = moments.slice(0, 1).map((moment) => this.tokenAt(moment));
-    roll.point(places && moments.length ? places.notesUnder(line, column, tokens) : new Set());
+    const notes = places && moments.length ? places.notesUnder(line, column, tokens) : new Set();
+    roll.point(notes);
+    if (!this.sounding.length) this.noted([...notes]);
     this.draw();
   }
 
@@ -168,6 +176,12 @@ export class Follower {
     if (!places) return null;
     const last = end.line > start.line && end.column === 0 ? end.line - 1 : end.line;
     return places.rangeOf(start.line, last);
+  }
+
+  /** The ticks of what is selected, null if nothing is, or they are not known. */
+  get ticksOfSelection() {
+    const { places } = this, { start, end } = this.sheet.selection();
+    return places?.rangeBetween(start, end) ?? null;
   }
 
   /** Puts the caret at the place of a note: of the tone that sounds at a tick, if several are tied.

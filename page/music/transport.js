@@ -1,14 +1,14 @@
 // Plays and stops the tune that is shown; where in it the cursor is, and what time that is.
 
-import { clock } from "./clock.js";
-import { button, find, write } from "./elements.js";
-import { secondOf } from "./midi.js";
+import { button, find, show, write } from "../base/elements.js";
+import { clock } from "../base/time_format.js";
+import { secondOf } from "./midi_file.js";
 
 export class Transport {
   /** @param {import("./shown_tune.js").ShownTune} shown
    * @param {import("./player.js").Player} player
-   * @param {import("./roll.js").Roll} roll
-   * @param {import("./follower.js").Follower} follower
+   * @param {import("./piano_roll.js").Roll} roll
+   * @param {import("./text_follower.js").Follower} follower
    * @param {import("./practice.js").Practice} practice */
   constructor(shown, player, roll, follower, practice) {
     this.shown = shown;
@@ -18,6 +18,8 @@ export class Transport {
     this.practice = practice;
     this.start = 0; // the tick at which to play
     this.ended = () => {};
+    /** @type {(isPlaying: boolean) => void} */
+    this.played = () => {}; // the tune begins to play, or plays no more
     this.listen();
   }
 
@@ -36,6 +38,7 @@ export class Transport {
       this.goTo(tick);
       if (!this.player.playing) this.playOrStop();
     };
+    this.practice.playedPart = ([from, to]) => this.playPart(from, to);
   }
 
   /** Plays the tune that is shown, or stops. */
@@ -43,8 +46,32 @@ export class Transport {
     const { player, shown, start } = this;
     if (player.playing) return player.stop();
     if (!shown.score) return;
-    find("play").textContent = "■ Stop";
+    this.showStop();
     this.practice.play(shown.score, start < shown.score.end ? start : 0);
+  }
+
+  /** Goes to the next bar, or the one before.
+   * @type {(isForward: boolean) => void} */
+  step(isForward) {
+    const { grid } = this.roll, tick = this.roll.tick ?? 0;
+    if (grid) this.goTo(isForward ? grid.after(tick, true) : grid.before(tick, true));
+  }
+
+  /** Shows that it plays, and that the button stops it. */
+  showStop() {
+    find("play").textContent = "■ Stop";
+    this.played(true);
+  }
+
+  /** Plays from a tick to a tick of the tune that is shown.
+   * @type {(from: number, to: number) => void} */
+  playPart(from, to) {
+    const { player, shown } = this;
+    if (!shown.score) return;
+    player.stop();
+    this.goTo(from);
+    this.showStop();
+    this.practice.play(shown.score, from, to);
   }
 
   /** Someone points at a place of the text, at which the caret is: its notes sound, and the tune is to play from there. */
@@ -83,7 +110,16 @@ export class Transport {
   move(tick) {
     this.roll.cursor(tick);
     this.showTime(tick);
+    this.showCount(this.player.counted);
     this.follower.sound(tick);
+  }
+
+  /** Shows the number of a beat of the count-in, or none.
+   * @type {(number: number) => void} */
+  showCount(number) {
+    const counted = find("counted");
+    show(counted, number > 0);
+    if (number) write(counted, String(number));
   }
 
   /** The player plays no more. */
@@ -91,7 +127,9 @@ export class Transport {
     find("play").textContent = "▶ Play";
     this.roll.cursor(this.start || null);
     this.showTime(this.start);
+    this.showCount(0);
     this.follower.sound(null);
+    this.played(false);
     this.ended();
   }
 

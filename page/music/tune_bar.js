@@ -1,21 +1,22 @@
 // What the page says of the tune that is shown: its title, its voices, its file, and why there is nothing to see.
 
-import { clock } from "./clock.js";
-import { find, show, write } from "./elements.js";
-import { whyNothing } from "./empty.js";
-import { secondOf } from "./midi.js";
-import { midiName } from "./midi_names.js";
-import { nameOf } from "./roll.js";
+import { find, show, write } from "../base/elements.js";
+import { counted } from "../base/plural.js";
+import { clock } from "../base/time_format.js";
+import { whyNothing } from "../tunes/empty_states.js";
+import { midiName } from "../tunes/midi_names.js";
+import { secondOf } from "./midi_file.js";
+import { nameOf } from "./piano_roll_picture.js";
 
-/** @typedef {import("./midi.js").Score} Score
- * @typedef {import("./rows.js").TuneRow} TuneRow */
+/** @typedef {import("./midi_file.js").Score} Score
+ * @typedef {import("../link/finding_rows.js").TuneRow} TuneRow */
 
 const AWAY = "The notes of this tune are not here while the server is away.";
 
 export class TuneBar {
   /** @param {import("./shown_tune.js").ShownTune} shown
-   * @param {import("./roll.js").Roll} roll
-   * @param {import("./follower.js").Follower} follower */
+   * @param {import("./piano_roll.js").Roll} roll
+   * @param {import("./text_follower.js").Follower} follower */
   constructor(shown, roll, follower) {
     this.shown = shown;
     this.roll = roll;
@@ -61,8 +62,8 @@ export class TuneBar {
   label(score) {
     const { roll } = this, { voices } = score;
     const range = score.notes.length ? `, from ${nameOf(roll.lowest)} to ${nameOf(roll.highest)}` : "";
-    const counted = `${voices} voice${voices === 1 ? "" : "s"}, ${roll.grid?.count} bars`;
-    return `Piano roll of tune ${this.shown.number}: ${counted}, ${clock(secondOf(score, score.end))}${range}`;
+    const counts = `${counted(voices, "voice")}, ${roll.grid?.count} bars`;
+    return `Piano roll of tune ${this.shown.number}: ${counts}, ${clock(secondOf(score, score.end))}${range}`;
   }
 
   /** The colour and the name of a voice.

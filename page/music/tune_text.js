@@ -1,7 +1,8 @@
 // What the page reads in the text of a tune, because a play does not have it: where parts begin, the names of voices, and how a tone is
 // spelled. docs/architecture.md lists these expressions, with their reasons.
 
-import { countBefore } from "./rows.js";
+import { countBefore } from "../base/binary_search.js";
+import { LETTERS, NATURALS } from "../tunes/pitch_names.js";
 
 /** @typedef {{ line: number, from: number, to: number }} TextPlace
  * The letter of a tone, and its alteration in semitones.
@@ -9,9 +10,8 @@ import { countBefore } from "./rows.js";
  * A field at its place, and its value.
  * @typedef {{ line: number, from: number, value: string }} Field */
 
+const BEAT = /^(?:"[^"]*"[ \t]*)?((?:\d+\/\d+[ \t]*)+)=/;
 const VOICE = /^([^ \t]+)(?:.*[ \t](?:name|nm)="([^"]*)")?/;
-const LETTERS = "CDEFGAB";
-const STEPS = [0, 2, 4, 5, 7, 9, 11]; // semitones of the letters above C
 
 /** Whether a place is before another one.
  * @type {(a: { line: number, from: number }, b: { line: number, from: number }) => boolean} */
@@ -28,6 +28,7 @@ export class TuneWords {
     this.last = last;
     this.parts = this.fields("P");
     this.voices = this.fields("V");
+    this.tempos = this.fields("Q");
   }
 
   /** The fields of a letter, as lines or in brackets.
@@ -51,6 +52,15 @@ export class TuneWords {
     return countBefore(this.parts, (part) => isBefore(part, place));
   }
 
+  /** The beat of the last `Q:` before a place, in quarter notes; null if that has none, or there is none.
+   * @type {(place: TextPlace) => number | null} */
+  beatAt(place) {
+    const field = this.tempos.findLast((one) => isBefore(one, place)), written = BEAT.exec(field?.value ?? "")?.[1];
+    if (!written) return null;
+    const parts = written.trim().split(/[ \t]+/).map((part) => part.split("/").map(Number));
+    return parts.reduce((sum, [over, under]) => sum + (4 * over) / under, 0);
+  }
+
   /** The name of the voice that plays at a place: that of the last `V:` of the music before it, else of the first `V:` of all.
    * @type {(place: TextPlace) => string} */
   voiceAt(place) {
@@ -67,7 +77,7 @@ export class TuneWords {
   spelling(place, key) {
     const letter = [...this.at(place).toUpperCase()].find((sign) => LETTERS.includes(sign));
     if (!letter) return null;
-    const alteration = ((key - STEPS[LETTERS.indexOf(letter)] + 18) % 12) - 6;
+    const alteration = ((key - NATURALS[LETTERS.indexOf(letter)] + 18) % 12) - 6;
     const most = /\^\^|__/.test(this.at(place)) ? 2 : 1;
     return Math.abs(alteration) <= most ? { letter, alteration } : null;
   }

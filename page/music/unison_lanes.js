@@ -1,6 +1,6 @@
 // Unisons: notes of several voices on one key at one time share the row of the key, each in a lane of its own.
 
-/** @typedef {import("./midi.js").Note} Note
+/** @typedef {import("./midi_file.js").Note} Note
  * @typedef {{ lane: number, of: number }} Lane */
 
 /** By note, if others are in unison with it: its lane, counted from above, and how many there are.

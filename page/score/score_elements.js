@@ -1,12 +1,12 @@
 // Elements of a drawing, made one by one of what the server sends: those that are listed here, with attributes that are listed
-// here. No text is ever read as markup. score_markup.py makes what the server sends.
+// here. No text is ever read as markup. svg_markup.py makes what the server sends.
 
 /** A node of a drawing, as the server sends it: its tag, its attributes, and what is in it; or a text.
  * @typedef {[tag: string, attributes: Record<string, any>, ...inside: any[]]} Node
  * @typedef {string | Node} Content
  * @typedef {{ element: SVGElement, row: number, column: number, kind: string, page: Page }} DrawnPlace */
 
-const SVG = "http://www.w3.org/2000/svg";
+export const SVG = "http://www.w3.org/2000/svg";
 const TAGS = new Set(["g", "defs", "path", "ellipse", "circle", "line", "rect", "text", "tspan", "use"]);
 const ATTRIBUTES = new Set([
   "class", "cx", "cy", "d", "dx", "dy", "font-family", "font-size", "font-style", "font-weight", "height", "href", "id", "r", "rx", "ry",

@@ -1,29 +1,26 @@
 // The scores of tunes as a PDF, which the server makes. Without Ghostscript there the browser prints them.
 
-import { download } from "./downloads.js";
-import { button, find } from "./elements.js";
-import { fileName } from "./midi_names.js";
-import { tuneOf } from "./score.js";
+import { bytesOfBase64 } from "../base/base64.js";
+import { download } from "../base/download.js";
+import { button, find, show, write } from "../base/elements.js";
+import { fileName } from "../tunes/midi_names.js";
+import { tuneOf } from "./score_view.js";
 
-/** @typedef {import("./rows.js").TuneRow} TuneRow
+/** @typedef {import("../link/finding_rows.js").TuneRow} TuneRow
  * What the server answers: the file in base 64, the places of tunes that are not in it, a note, or why there is none, and whether a
  * program is missing.
  * @typedef {{ pdf?: string, left?: number[], note?: string, why?: string, missing?: boolean }} Answer
  * `book` has the name of the book; `listed` has the tunes of the list; `say` shows a sentence, `close` closes the dialog.
  * @typedef {object} Parts
- * @property {import("./book_host.js").BookHost} server
- * @property {import("./link.js").Link} link
+ * @property {import("../link/book_host.js").BookHost} server
+ * @property {import("../link/host_link.js").Link} link
  * @property {{ name: string }} book
- * @property {import("./findings.js").Findings} findings
+ * @property {import("../link/findings.js").Findings} findings
  * @property {{ rows: TuneRow[] }} listed
- * @property {import("./music.js").Music} music
- * @property {import("./score.js").Score} staves
+ * @property {import("../music/music_panel.js").Music} music
+ * @property {import("./score_view.js").Score} staves
  * @property {(words: string) => void} say
  * @property {() => void} close */
-
-/** The bytes that letters in base 64 are.
- * @type {(letters: string) => Uint8Array} */
-const bytesOf = (letters) => Uint8Array.from(atob(letters), (letter) => letter.charCodeAt(0));
 
 /** What is shown after a file of some tunes was stored. `left` are the places of those that are not in it.
  * @type {(name: string, rows: TuneRow[], left: number[], note: string) => string} */
@@ -58,6 +55,15 @@ export class ScorePdf {
     find("of-the-list").textContent = count === all ? `All ${all} tunes:` : `${count} filtered ${count === 1 ? "tune" : "tunes"}:`;
     button("list-pdf").disabled = !count || Boolean(link.away);
     button("tune-pdf").disabled = !music.row || Boolean(link.away);
+    if (this.parts.server.offers.score && !link.away) void this.learn();
+  }
+
+  /** Says below the buttons what a PDF needs and the server does not have. */
+  async learn() {
+    /** @type {{ why: string }} */
+    const { why } = await this.parts.server.ask("pdf").catch(() => ({ why: "" }));
+    write(find("pdf-needs"), why);
+    show(find("pdf-needs"), Boolean(why));
   }
 
   ofTune() {
@@ -81,7 +87,7 @@ export class ScorePdf {
     /** @type {Answer} */
     const answer = await server.ask("pdf", asked).catch((/** @type {Error} */ error) => ({ why: `There is no PDF: ${error.message}.` }));
     if (answer.pdf) {
-      download(new Blob([bytesOf(answer.pdf)], { type: "application/pdf" }), name);
+      download(new Blob([bytesOfBase64(answer.pdf)], { type: "application/pdf" }), name);
       return say(storedWords(name, rows, answer.left ?? [], answer.note ?? ""));
     }
     say(answer.why ?? "");
@@ -89,7 +95,7 @@ export class ScorePdf {
   }
 
   /** The lines of tunes, as they are drawn.
-   * @type {(rows: TuneRow[]) => import("./score.js").DrawnTune[]} */
+   * @type {(rows: TuneRow[]) => import("./score_view.js").DrawnTune[]} */
   drawn(rows) {
     const { text, tunes } = this.parts.findings, places = new Map(tunes.map((row, at) => [row, at]));
     return rows.flatMap((row) => tuneOf(text.lines, tunes, places.get(row) ?? -1) ?? []);

@@ -1,6 +1,7 @@
 // The score as a file: its pages one below the other in one SVG, black on white.
 
-const SVG = "http://www.w3.org/2000/svg";
+import { SVG } from "./score_elements.js";
+
 const STYLE = "svg { fill: #000; color: #000; white-space: pre } .score-stroke { fill: none; stroke: #000 } .score-paper { fill: #fff } .score-place { display: none }";
 
 /** The words of the file of some drawings, each with its width and its height.

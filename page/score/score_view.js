@@ -1,6 +1,6 @@
 // The score: the tune at the caret as staves, which `abcm2ps` draws at the server, some time after the last key.
 //
-// What others may use of a `Score` (in page.js its name is `staves`):
+// What others may use of a `Score` (in application.js its name is `staves`):
 //   notes          the notes, rests and grace notes of the drawn tune, in the order in which they are drawn: each has `line` and
 //                  `column` (its place in the present lines of the book, from 0, columns in UTF-16 units), `length` (of its
 //                  text), `kind` ("note", "rest", "grace") and `element`, which covers it as soon as its part of the score is
@@ -14,39 +14,41 @@
 //                  lines, and those of the file header; null for none
 //   caret(place)   says where the caret is
 //   hasFaults      is asked whether a tune has faults; `abcm2ps` may draw them in another way than the program plays them
-//   doubt()        says below the drawing that it may differ from the sound, if the drawn tune has faults
+//   doubt()        looks whether the drawn tune has faults, so that it may differ from the sound
+//   doubted        is called with whether it has
 //   print()        prints the tune, page by page
 //   printAll(tunes) prints other tunes
+//   transpose(semitones) draws by so many semitones higher
 //
 // The element that is given has the attribute `aria-busy` while a drawing is asked for, or while another tune is to be drawn than
 // the one that it shows. `document.body.dataset.score` is "missing" if there is no `abcm2ps`.
 
-import { onceAFrame } from "./frames.js";
-import { onResize } from "./resizing.js";
-import { ScoreLine } from "./score_line.js";
-import { laidOut } from "./score_tree.js";
+import { onResize } from "../base/on_resize.js";
+import { onceAFrame } from "../base/once_a_frame.js";
+import { BLANK } from "../text/blank_line.js";
+import { ScoreLine } from "./playback_line.js";
+import { laidOut } from "./score_elements.js";
 
 /** The tune that is to be drawn.
  * @typedef {{ first: number, lines: string[], header: string[] }} DrawnTune
- * What the server answers: the drawing, why there is none, a note about it, whether `abcm2ps` is missing.
- * @typedef {{ images?: import("./score_tree.js").Node[], why?: string, note?: string, missing?: boolean }} Answer
- * @typedef {import("./score_tree.js").Page} Page
- * @typedef {import("./selection.js").Place} Place
+ * What the server answers: the drawing, why there is none, a note about it, the walls in which it was drawn, whether `abcm2ps` is missing.
+ * @typedef {{ images?: import("./score_elements.js").Node[], why?: string, note?: string, walls?: string, missing?: boolean }} Answer
+ * @typedef {import("./score_elements.js").Page} Page
+ * @typedef {import("../text/selection.js").Place} Place
  * @typedef {Element & { note?: Note }} Cover the element of a note */
 
 const REST = 200; // milliseconds after the last key
 const BETWEEN = 50; // milliseconds between pages that are not seen
+const USUAL_ROOM = 640; // pixels, while the score is hidden
 const LEAST = 12; // pixels by which the width must differ before it is drawn anew
 const MOST_LINES = 5000; // the server draws no tune that has as many
-const DOUBT = "This tune has faults. The score may differ from what you hear.";
-const BLANK = /^[ \t]*$/;
 const PRECEDES = /^(?!%%)[ \t]*(?:%|$)/; // a comment or a blank line, which may precede a file header
 const LENGTH = /(?:[_^=]{0,2}[A-Ga-gxyzXZ][',]*|\[[^\]|]*\])\d*\/*\d*|/y; // of a note, a rest or a chord
 
 export class Score {
   /** `ask` asks the server for a drawing: it gives the answer, or throws.
    * @param {HTMLElement} view
-   * @param {(question: { header: string[], tune: string[], width: number | null }) => Promise<Answer>} ask */
+   * @param {(question: { header: string[], tune: string[], width: number | null, transpose: number }) => Promise<Answer>} ask */
   constructor(view, ask) {
     this.view = view;
     this.ask = ask;
@@ -69,11 +71,13 @@ export class Score {
     /** @type {ReturnType<typeof setTimeout> | undefined} */
     this.timer = undefined;
     this.width = 0; // that was asked for last
+    this.semitones = 0; // by which it is drawn higher
     this.isFailed = false; // the server did not answer
     this.asking = false;
     this.at = { line: -1, column: 0 }; // the caret
-    this.doubts = Object.assign(document.createElement("p"), { className: "doubt", textContent: DOUBT });
     this.drawn = () => {};
+    /** @type {(isDoubtful: boolean) => void} */
+    this.doubted = () => {};
     /** @type {(line: number, column: number) => void} */
     this.picked = () => {};
     /** @type {(tune: DrawnTune) => boolean} */
@@ -99,6 +103,13 @@ export class Score {
     this.soon();
   }
 
+  /** @type {(semitones: number) => void} */
+  transpose(semitones) {
+    if (semitones === this.semitones) return;
+    this.semitones = semitones;
+    if (this.seen) this.soon();
+  }
+
   /** @type {(place: Place) => void} */
   caret(place) {
     this.at = place;
@@ -119,11 +130,10 @@ export class Score {
     this.mark([]);
   }
 
-  /** Another tune that is to be drawn leaves the words as they are till it is there. */
+  /** Another tune that is to be drawn leaves the doubt as it is till it is there. */
   doubt() {
     if (this.shown !== this.seen) return;
-    if (this.shown && this.notes.length && this.hasFaults(this.shown)) this.view.append(this.doubts);
-    else this.doubts.remove();
+    this.doubted(this.shown !== null && this.notes.length > 0 && this.hasFaults(this.shown));
   }
 
   async print() {
@@ -134,13 +144,13 @@ export class Score {
    * @type {(tunes: DrawnTune[]) => Promise<void>} */
   async printAll(tunes) {
     const images = [];
-    for (const tune of tunes) images.push(...((await this.ask({ ...linesOf(tune), width: null }).catch(() => null))?.images ?? []));
+    for (const tune of tunes) images.push(...((await this.ask({ ...linesOf(tune), width: null, transpose: this.semitones }).catch(() => null))?.images ?? []));
     if (images.length) this.layOut(images);
     window.print();
   }
 
   /** Lays out pages of paper, which are there till they are printed.
-   * @type {(images: import("./score_tree.js").Node[]) => void} */
+   * @type {(images: import("./score_elements.js").Node[]) => void} */
   layOut(images) {
     document.getElementById("paper")?.remove();
     const paper = Object.assign(document.createElement("div"), { id: "paper" });
@@ -157,7 +167,8 @@ export class Score {
 
   /** How many pixels wide a drawing may be. */
   room() {
-    return Math.floor(this.view.clientWidth) - 8;
+    const { clientWidth } = this.view;
+    return clientWidth ? Math.floor(clientWidth) - 8 : this.width || USUAL_ROOM;
   }
 
   soon() {
@@ -174,10 +185,11 @@ export class Score {
     if (!tune) return this.show({ missing: document.body.dataset.score === "missing" }, null);
     this.wait(true);
     this.width = this.room();
-    const answer = await this.ask({ ...linesOf(tune), width: this.width }).catch(() => null);
+    const { semitones } = this;
+    const answer = await this.ask({ ...linesOf(tune), width: this.width, transpose: semitones }).catch(() => null);
     this.wait(false);
     this.isFailed = !answer;
-    if (answer && this.seen === tune) this.show(answer, tune);
+    if (answer && this.seen === tune && this.semitones === semitones) this.show(answer, tune);
   }
 
   /** Waits for an answer, or does so no more.
@@ -194,8 +206,10 @@ export class Score {
 
   /** Shows a drawing with a note below it, or why there is none.
    * @type {(answer: Answer, tune: DrawnTune | null) => void} */
-  show({ images = [], why = "", note = "", missing = false }, tune) {
+  show({ images = [], why = "", note = "", walls = "", missing = false }, tune) {
+    if (tune?.lines[0] !== this.shown?.lines[0]) this.view.scrollTop = 0; // another tune begins at its begin
     this.shown = tune;
+    this.view.title = walls;
     this.markBusy();
     this.lit = new Set();
     const { pages, places } = laidOut(images);
@@ -271,7 +285,7 @@ export class Score {
 /** A note of a drawn tune: its line moves with the tune. */
 class Note {
   /** @param {DrawnTune} tune
-   * @param {import("./score_tree.js").DrawnPlace} place */
+   * @param {import("./score_elements.js").DrawnPlace} place */
   constructor(tune, { row, column, kind, element, page }) {
     this.tune = tune;
     this.row = row;
@@ -298,7 +312,7 @@ function linesOf({ header, lines }) {
 }
 
 /** The tune of a row, up to the first blank line, with the file header; null if there is no such row.
- * @type {(lines: string[], rows: import("./rows.js").TuneRow[], at: number) => DrawnTune | null} */
+ * @type {(lines: string[], rows: import("../link/finding_rows.js").TuneRow[], at: number) => DrawnTune | null} */
 export function tuneOf(lines, rows, at) {
   if (at < 0) return null;
   const [first] = rows[at];

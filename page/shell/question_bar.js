@@ -1,6 +1,6 @@
 // Questions in a line above the text. One is shown at a time; the others wait for its answer, so that none is lost.
 
-import { hide } from "./elements.js";
+import { hide } from "../base/elements.js";
 
 /** What each answer does; null puts the question off.
  * @typedef {Record<string, (() => void) | null>} Answers

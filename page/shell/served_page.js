@@ -1,7 +1,7 @@
 // Opens the page over the book of a server.
 
-import { Application } from "./page.js";
-import { Server } from "./server.js";
+import { Server } from "../link/server_host.js";
+import { Application } from "./application.js";
 
 const key = /** @type {HTMLMetaElement} */ (document.querySelector("meta[name=key]")).content;
 new Application(new Server(location, key)).open();

@@ -5,13 +5,13 @@ const KEPT = "What you type is kept in this browser, and sent when it is there a
 const NO_ROOM = "This browser has no room to keep the text: do not close it";
 
 /** @typedef {object} Parts
- * @property {import("./book_host.js").BookHost} server
- * @property {import("./link.js").Link} link
- * @property {import("./book.js").Book} book
- * @property {import("./sheet.js").Sheet} sheet
- * @property {import("./questions.js").Questions} questions
+ * @property {import("../link/book_host.js").BookHost} server
+ * @property {import("../link/host_link.js").Link} link
+ * @property {import("../link/host_book.js").Book} book
+ * @property {import("../editor/text_sheet.js").Sheet} sheet
+ * @property {import("./question_bar.js").Questions} questions
  * @property {import("./status_bar.js").StatusBar} status
- * @property {import("./kept_text.js").KeptText} kept */
+ * @property {import("../link/draft_recovery.js").KeptText} kept */
 
 export class ServerNews {
   /** @param {Parts} parts */
@@ -29,7 +29,7 @@ export class ServerNews {
   }
 
   /** Says which files a change wrote and removed, and who made it.
-   * @type {(change: import("./link.js").Change, isOwn: boolean) => void} */
+   * @type {(change: import("../link/host_link.js").Change, isOwn: boolean) => void} */
   reportChange({ written, removed, milliseconds, window }, isOwn) {
     const by = isOwn ? "" : window === null ? ` · ${this.book.name} was changed on the disk` : " · by another window";
     const files = [...filesOf("changed", written), ...filesOf("removed", removed)].join("; ") || "no file changed";

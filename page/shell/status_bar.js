@@ -1,6 +1,6 @@
 // The line at the bottom: the latest sentence of the page, and the place of the caret.
 
-import { find, write } from "./elements.js";
+import { find, write } from "../base/elements.js";
 
 export class StatusBar {
   constructor() {
@@ -22,7 +22,7 @@ export class StatusBar {
   }
 
   /** Shows the place of the caret.
-   * @type {(place: import("./selection.js").Place) => void} */
+   * @type {(place: import("../text/selection.js").Place) => void} */
   place({ line, column }) {
     write(find("place"), `Line ${line + 1}, column ${column + 1}`);
   }

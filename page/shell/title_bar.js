@@ -1,12 +1,12 @@
 // The bar at the top: the name of the book, whether it is saved, and who else has it.
 
-import { find, hide, show, write } from "./elements.js";
+import { find, hide, show, write } from "../base/elements.js";
 
 export class TitleBar {
   /** `back` takes the focus of a button that goes.
-   * @param {import("./link.js").Link} link
-   * @param {import("./book.js").Book} book
-   * @param {import("./files.js").Files} files
+   * @param {import("../link/host_link.js").Link} link
+   * @param {import("../link/host_book.js").Book} book
+   * @param {import("../dialogs/book_saving.js").Files} files
    * @param {HTMLElement} back */
   constructor(link, book, files, back) {
     this.link = link;

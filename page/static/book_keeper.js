@@ -12,12 +12,19 @@ export class Keeper {
     this.store = store;
     /** @type {ReturnType<typeof setTimeout> | null} */
     this.timer = null;
+    this.writing = 0; // changes on their way to the store
     /** @type {Promise<void>} */
     this.kept = Promise.resolve(); // when the last change is kept
     this.isOver = false; // another tab has the book
+    this.isFailing = false; // the store did not take the last change
     this.lost = () => {}; // another tab changed the book, and the text of this one is a book of its own now
     /** @type {(why: string) => void} */
     this.failed = () => {};
+  }
+
+  /** Whether the store has the last change. */
+  get isKept() {
+    return !this.isFailing && this.writing === 0 && this.timer === null;
   }
 
   /** The book changed. */
@@ -34,15 +41,17 @@ export class Keeper {
   keep() {
     if (this.timer) clearTimeout(this.timer);
     this.timer = null;
-    this.kept = this.kept.then(() => this.write());
+    this.writing += 1;
+    this.kept = this.kept.then(() => this.write()).finally(() => (this.writing -= 1));
   }
 
   async write() {
     if (this.isOver) return;
     try {
       await this.put(this.book.id);
+      this.isFailing = false;
     } catch (error) {
-      if (!(error instanceof ChangedElsewhere)) return this.failed(/** @type {Error} */ (error).message);
+      if (!(error instanceof ChangedElsewhere)) return this.fail(/** @type {Error} */ (error));
       this.isOver = true;
       await this.copy();
       this.lost();
@@ -60,7 +69,14 @@ export class Keeper {
 
   /** Keeps the text as a book of its own. */
   async copy() {
-    await this.put(newName()).catch((error) => this.failed(error.message));
+    await this.put(newName()).catch((error) => this.fail(error));
+  }
+
+  /** The store did not take the text.
+   * @type {(error: Error) => void} */
+  fail({ message }) {
+    this.isFailing = true;
+    this.failed(message);
   }
 
   /** Puts the book into the store.

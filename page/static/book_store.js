@@ -33,6 +33,15 @@ function result(request) {
   });
 }
 
+/** Asks the browser not to drop what it keeps for this page if it lacks room. */
+export async function keepForGood() {
+  await globalThis.navigator?.storage?.persist?.().catch(() => false);
+}
+
+/** What a change of the store has: a computer that loses its power has it then, too.
+ * @type {{ durability: "strict" }} */
+const STRICT = { durability: "strict" };
+
 export class BookStore {
   /** @param {IDBDatabase} database */
   constructor(database) {
@@ -68,11 +77,17 @@ export class BookStore {
     return summary && content ? { ...summary, ...content } : null;
   }
 
+  /** A change of the store.
+   * @returns {IDBTransaction} */
+  changing() {
+    return /** @type {any} */ (this.database).transaction([BOOKS, CONTENTS], "readwrite", STRICT); // the types of an older compiler lack it
+  }
+
   /** Keeps a book. Throws `ChangedElsewhere` if another tab changed it since this one read or wrote it.
    * @type {(summary: Omit<Summary, "stamp" | "when">, content: Omit<Content, "id">) => Promise<void>} */
   async keep(summary, content) {
     const { id } = summary, stamp = String(Math.random());
-    const transaction = this.database.transaction([BOOKS, CONTENTS], "readwrite");
+    const transaction = this.changing();
     const done = new Promise((resolve, reject) => {
       transaction.oncomplete = resolve;
       transaction.onabort = () => reject(transaction.error ?? new ChangedElsewhere("another tab changed the book"));
@@ -89,7 +104,7 @@ export class BookStore {
 
   /** @type {(id: string) => Promise<void>} */
   async forget(id) {
-    const transaction = this.database.transaction([BOOKS, CONTENTS], "readwrite");
+    const transaction = this.changing();
     await Promise.all([BOOKS, CONTENTS].map((name) => result(transaction.objectStore(name).delete(id))));
   }
 }

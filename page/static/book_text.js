@@ -1,6 +1,7 @@
 // The text of a tune book: bytes in a file, lines in the page. A line that nobody edits keeps its bytes.
 
-import { commonEnds, replaced } from "./lines.js";
+import { commonEnds, replaced } from "../text/line_edits.js";
+import { windowsBytes, windowsText } from "../text/windows_1252.js";
 
 /** A line of the file: a string if its bytes are UTF-8, else the bytes.
  * @typedef {string | Uint8Array} Line
@@ -21,14 +22,6 @@ function utf8(bytes) {
   } catch {
     return null;
   }
-}
-
-/** The text of bytes as Latin-1.
- * @type {(bytes: Uint8Array) => string} */
-function latin1(bytes) {
-  let text = "";
-  for (const byte of bytes) text += String.fromCharCode(byte);
-  return text;
 }
 
 /** How many lines are not UTF-8.
@@ -100,13 +93,13 @@ export class BookText {
   /** The name of the encoding that the lines have. */
   get letters() {
     if (!this.odd) return "utf-8";
-    return this.lines.some((line) => typeof line === "string" && /[^\0-\x7f]/.test(line)) ? "both" : "latin-1";
+    return this.lines.some((line) => typeof line === "string" && /[^\0-\x7f]/.test(line)) ? "both" : "windows-1252";
   }
 
   /** A line as the page shows it: each control is a half of a pair.
    * @type {(line: Line) => string} */
   shown(line) {
-    const text = typeof line === "string" ? line : latin1(line);
+    const text = typeof line === "string" ? line : windowsText(line);
     const content = this.returns && text.endsWith("\r") ? text.slice(0, -1) : text;
     return content.replace(CONTROL, (control) => String.fromCharCode(0xdc00 + control.charCodeAt(0)));
   }
@@ -116,14 +109,14 @@ export class BookText {
     return this.lines.map((line) => this.shown(line));
   }
 
-  /** The edit that makes some lines those that the page shows. One that was there keeps its bytes. New ones are Latin-1 if the
-   * book is, or if one of the replaced lines is.
+  /** The edit that makes some lines those that the page shows. One that was there keeps its bytes. New ones are Windows-1252 if
+   * the book is, or if one of the replaced lines is.
    * @type {(start: number, stop: number, lines: string[]) => LineEdit} */
   editOf(start, stop, lines) {
     const old = this.lines.slice(start, stop), shown = old.map((line) => this.shown(line));
     const content = old.map((line) => this.content(line)), known = new Map(shown.map((line, n) => [line, content[n]]));
-    const isLatin1 = old.some((line) => typeof line !== "string") || (this.odd > 0 && this.letters === "latin-1");
-    const put = lines.map((line) => known.get(line) ?? lineOf(line, isLatin1));
+    const isWindows = old.some((line) => typeof line !== "string") || (this.odd > 0 && this.letters === "windows-1252");
+    const put = lines.map((line) => known.get(line) ?? lineOf(line, isWindows));
     const { front, back } = commonEnds(shown, lines);
     for (let n = 0; n < front; n += 1) put[n] = content[n];
     for (let n = 1; n <= back; n += 1) put[put.length - n] = content[content.length - n];
@@ -157,7 +150,7 @@ export class BookText {
 
   /** The same letters in UTF-8. */
   get inUtf8() {
-    return new BookText(this.mark, this.lines.map((line) => (typeof line === "string" ? line : latin1(line))), this.returns);
+    return new BookText(this.mark, this.lines.map((line) => (typeof line === "string" ? line : windowsText(line))), this.returns);
   }
 
   /** Whether it has the bytes of another text. A line at a place is compared first, as the one that an edit made: the others may be all of a
@@ -182,13 +175,10 @@ function withReturn(line) {
   return typeof line === "string" ? `${line}\r` : Uint8Array.from([...line, 13]);
 }
 
-/** The line of the file for one that the page shows: UTF-8, or Latin-1 if it is to be, and is then read as the same letters.
- * @type {(shown: string, isLatin1: boolean) => Line} */
-function lineOf(shown, isLatin1) {
+/** The line of the file for one that the page shows: UTF-8, or Windows-1252 if it is to be, and is then read as the same letters.
+ * @type {(shown: string, isWindows: boolean) => Line} */
+function lineOf(shown, isWindows) {
   const plain = shown.replace(HALF, (half) => String.fromCharCode(half.charCodeAt(0) - 0xdc00));
-  if (isLatin1 && /[\x80-\xff]/.test(plain) && /^[\0-\xff]*$/.test(plain)) {
-    const bytes = Uint8Array.from(plain, (letter) => letter.charCodeAt(0));
-    if (utf8(bytes) === null) return bytes;
-  }
-  return plain.replace(/\p{Surrogate}/gu, "?");
+  const bytes = isWindows && /[^\0-\x7f]/.test(plain) ? windowsBytes(plain) : null;
+  return bytes && utf8(bytes) === null ? bytes : plain.replace(/\p{Surrogate}/gu, "?");
 }

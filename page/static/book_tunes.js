@@ -3,8 +3,8 @@
 import { MarkedLines } from "./marked_lines.js";
 
 /** @typedef {import("./book_text.js").Line} Line
- * @typedef {import("./rows.js").TuneRow} TuneRow
- * @typedef {import("./abc2midi-live/index.js").Title} Title
+ * @typedef {import("../link/finding_rows.js").TuneRow} TuneRow
+ * @typedef {import("../abc2midi-live/index.js").Title} Title
  * What has titles.
  * @typedef {{ titlesIn: (start: number, stop: number) => Promise<Title[]> }} Session
  * Titles that edits may have changed: those from `start` to `stop` became those from `start` to `end`.

@@ -1,6 +1,8 @@
 // The dialog that opens a book: a file, a new book, one that the browser keeps, or one that another tab has.
 
-import { button, find } from "./elements.js";
+import { button, find } from "../base/elements.js";
+import { counted } from "../base/plural.js";
+import { commandOf } from "../base/shortcut_names.js";
 
 /** @typedef {import("./book_store.js").Summary} Summary
  * What the dialog asks of the page. `opened` opens a kept book, `created` begins a new one, `picked` opens a file.
@@ -35,7 +37,7 @@ export class BooksDialog {
 
   /** @type {(event: KeyboardEvent) => void} */
   key(event) {
-    if (event.key.toLowerCase() !== "o" || !(event.ctrlKey || event.metaKey) || event.shiftKey || event.altKey) return;
+    if (commandOf(event) !== "o" || event.shiftKey || event.altKey) return;
     event.preventDefault();
     if (!document.querySelector("dialog[open]")) this.open();
   }
@@ -102,6 +104,6 @@ const nameOf = ({ name, title }) => name || title || "No title";
 
 /** @type {(book: Summary) => string} */
 function factsOf({ name, title, tunes, unsaved, when }) {
-  const counted = `${tunes} tune${tunes === 1 ? "" : "s"}`, date = new Date(when).toLocaleString([], { dateStyle: "medium", timeStyle: "short" });
-  return [name ? title : "", counted, unsaved ? "unsaved" : "", date].filter(Boolean).join(" · ");
+  const date = new Date(when).toLocaleString([], { dateStyle: "medium", timeStyle: "short" });
+  return [name ? title : "", counted(tunes, "tune"), unsaved ? "unsaved" : "", date].filter(Boolean).join(" · ");
 }

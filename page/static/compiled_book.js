@@ -1,28 +1,27 @@
 // A text of any kind in a session of the compiler. Lines that the session would refuse are comments there, and faults here.
 
-import { WorkerSession } from "./abc2midi-live/worker.js";
+import { WorkerSession } from "../abc2midi-live/worker.js";
+import { ENTRY_KINDS, KINDS, NO_KEY } from "../link/tokens_and_plays.js";
+import { difference } from "../text/line_edits.js";
 import { bytesOf } from "./book_text.js";
 import { BookTunes } from "./book_tunes.js";
 import { spanOf } from "./fault_spans.js";
-import { difference } from "./lines.js";
 import { MarkedLines } from "./marked_lines.js";
-import { ENTRY_KINDS, KINDS } from "./seen.js";
 
 /** @typedef {import("./book_text.js").Line} Line
  * @typedef {import("./book_text.js").BookText} BookText
- * @typedef {import("./rows.js").FaultRow} FaultRow
- * @typedef {import("./rows.js").TuneRow} TuneRow
+ * @typedef {import("../link/finding_rows.js").FaultRow} FaultRow
+ * @typedef {import("../link/finding_rows.js").TuneRow} TuneRow
  * What the compiler finds in a text.
  * @typedef {{ faults: FaultRow[], tunes: TuneRow[] }} Rows
- * @typedef {import("./abc2midi-live/index.js").Report} Report
- * @typedef {import("./abc2midi-live/index.js").Entry} Entry */
+ * @typedef {import("../abc2midi-live/index.js").Report} Report
+ * @typedef {import("../abc2midi-live/index.js").Entry} Entry */
 
 const MOST_LINES = 1048576, MOST_BYTES = 65535; // of a text, of a line
 const MOST_BYTES_OF_A_UNIT = 3;
 const LEFT_OUT = "%"; // instead of a longer line: a comment has no effect
 const MOST_SEEN = 1000; // lines of a window
 const MOST_SPANS = 100000; // that are known
-const NO_KEY = 128;
 
 /** Whether a line has too many bytes.
  * @type {(line: Line) => boolean} */
@@ -121,7 +120,7 @@ export class CompiledBook {
   }
 
   /** What is seen of the session's text: the tokens of lines, and the play of a number, as rows of numbers.
-   * @type {(wanted: import("./seen.js").Want) => Promise<import("./seen.js").View>} */
+   * @type {(wanted: import("../link/tokens_and_plays.js").Want) => Promise<import("../link/tokens_and_plays.js").View>} */
   async view({ from, to, tune }) {
     const count = Math.max(0, Math.min(to, from + MOST_SEEN, this.lines.length) - from);
     const tokens = Promise.all(Array.from({ length: count }, (_, n) => this.tokens(from + n)));

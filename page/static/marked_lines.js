@@ -1,6 +1,6 @@
 // Which lines of a text have something, while lines become others: an edit looks at its own lines alone.
 
-import { countBefore } from "./rows.js";
+import { countBefore } from "../base/binary_search.js";
 
 /** @typedef {import("./book_text.js").Line} Line */
 

@@ -1,11 +1,11 @@
 // The dialog with a link to the tune at the caret.
 
-import { button, field, find } from "./elements.js";
-import { tuneOf } from "./score.js";
+import { button, field, find } from "../base/elements.js";
+import { tuneOf } from "../score/score_view.js";
 import { MOST_CHARACTERS, linkOf } from "./share_link.js";
 
 export class ShareDialog {
-  /** @param {import("./page.js").Application} page */
+  /** @param {import("../shell/application.js").Application} page */
   constructor(page) {
     this.page = page;
     this.dialog = /** @type {HTMLDialogElement} */ (find("share-dialog"));

@@ -1,14 +1,26 @@
 // A link that has a tune in its fragment. A browser sends no fragment to a server.
 
+import { bytesOfBase64 } from "../base/base64.js";
+
 export const MOST_CHARACTERS = 8000; // of a link: programs cut longer ones
 const MOST_BYTES = 1_000_000; // of the text in a link: a short link may unpack to a long text
 const NAMES = { packed: "abc-z", plain: "abc" };
+
+/** Whether this browser packs and unpacks as links do: some have the streams, but not this format.
+ * @type {() => boolean} */
+function canPack() {
+  try {
+    return Boolean(new CompressionStream("deflate-raw") && new DecompressionStream("deflate-raw"));
+  } catch {
+    return false;
+  }
+}
 
 /** A link to the page at an address with a text.
  * @type {(address: string, text: string) => Promise<string>} */
 export async function linkOf(address, text) {
   const bytes = new TextEncoder().encode(text), page = address.split("#")[0];
-  if (typeof CompressionStream !== "function") return `${page}#${NAMES.plain}=${lettersOf(bytes)}`;
+  if (!canPack()) return `${page}#${NAMES.plain}=${lettersOf(bytes)}`;
   return `${page}#${NAMES.packed}=${lettersOf(await piped(bytes, new CompressionStream("deflate-raw")))}`;
 }
 
@@ -18,9 +30,9 @@ export async function textIn(fragment) {
   const [, name, letters] = /^#(abc|abc-z)=(.*)$/.exec(fragment) ?? [];
   if (!name) return null;
   const isPacked = name === NAMES.packed;
-  if (isPacked && typeof DecompressionStream !== "function") throw new Error("this browser cannot unpack it");
+  if (isPacked && !canPack()) throw new Error("this browser cannot unpack it");
   try {
-    const bytes = bytesOf(letters);
+    const bytes = bytesOfBase64(letters.replaceAll("-", "+").replaceAll("_", "/"));
     return new TextDecoder("utf-8", { fatal: true }).decode(isPacked ? await piped(bytes, new DecompressionStream("deflate-raw")) : bytes);
   } catch {
     throw new Error("it is not whole");
@@ -47,9 +59,4 @@ async function piped(bytes, stream) {
 function lettersOf(bytes) {
   const text = Array.from(bytes, (byte) => String.fromCharCode(byte)).join("");
   return btoa(text).replaceAll("+", "-").replaceAll("/", "_").replaceAll("=", "");
-}
-
-/** @type {(letters: string) => Uint8Array} */
-function bytesOf(letters) {
-  return Uint8Array.from(atob(letters.replaceAll("-", "+").replaceAll("_", "/")), (letter) => letter.charCodeAt(0));
 }

@@ -1,14 +1,14 @@
 // Opens the page without a server: over the compiler in a worker, and what the browser keeps.
 
-import { Session } from "./abc2midi-live/index.js";
+import { find } from "../base/elements.js";
+import { Drafts } from "../link/draft_store.js";
+import { Application } from "../shell/application.js";
+import { Keeper } from "./book_keeper.js";
 import { BookLock } from "./book_lock.js";
-import { BookStore, newName } from "./book_store.js";
+import { BookStore, keepForGood, newName } from "./book_store.js";
 import { BooksDialog } from "./books_dialog.js";
-import { Drafts } from "./drafts.js";
-import { find } from "./elements.js";
-import { Keeper } from "./keeper.js";
+import { lackingFeatures } from "./browser_features.js";
 import { keepOffline } from "./offline.js";
-import { Application } from "./page.js";
 import { PickedFile, canPick, pickToOpen, pickToSave } from "./picked_file.js";
 import { ShareDialog } from "./share_dialog.js";
 import { textIn } from "./share_link.js";
@@ -21,6 +21,8 @@ import { WorkerBook } from "./worker_book.js";
 const PATH = new URL("./", location.href).pathname;
 const PRESENT = `abc2midi_live book ${PATH}`; // in the store of the tab: the book that it has
 const NOT_KEPT = "This browser keeps nothing for this page: save before you close it.";
+const ONLY_HERE = "The text is in no file, and this browser does not keep it.";
+const NOTHING = { name: "", data: new Uint8Array(), file: null }; // a new book
 
 class StaticPage {
   constructor() {
@@ -32,17 +34,20 @@ class StaticPage {
     this.keeper = null;
     /** @type {BookLock | null} */
     this.lock = null;
+    this.isLeaving = false; // the page is loaded anew
     new ShareDialog(this.page);
     this.books = new BooksDialog({
-      books: async () => (await this.store?.books()) ?? [],
+      books: async () => (await this.store?.books().catch(() => null)) ?? [],
       opened: (id) => this.go(id),
-      created: () => this.go(newName()),
+      created: () => this.create(),
       picked: () => this.pick(),
       shown: (name) => this.openExample(name),
       forgotten: async (id) => this.forget(id),
       moved: () => this.moveHere(),
     });
     find("upload").addEventListener("change", () => this.upload());
+    find("download").addEventListener("click", () => this.page.saveAs.openDownloads());
+    find("download").hidden = !canPick; // else 'Save as…' downloads
     addEventListener("hashchange", () => this.leave(location.hash));
   }
 
@@ -50,8 +55,11 @@ class StaticPage {
   async open() {
     this.page.open();
     this.store = await BookStore.open(PATH).catch(() => null);
-    if (!this.store) this.say(NOT_KEPT);
-    const opening = await this.opening();
+    const opening = await this.opening().catch(() => {
+      this.store = null; // it opens, but cannot be read
+      return this.opening();
+    });
+    if (!this.store) this.warn(NOT_KEPT);
     const lock = (this.lock = new BookLock(PATH, opening.id));
     this.books.current = opening.id;
     if (!(await lock.take())) return this.books.showElsewhere(opening.name || opening.title);
@@ -66,7 +74,8 @@ class StaticPage {
    * @returns {Promise<Opening & { file: PickedFile | null, title: string, isKept: boolean }>} */
   async opening() {
     const shared = await textIn(location.hash).catch((error) => {
-      this.say(`The tune in this link cannot be read: ${error.message}.`);
+      const words = `The tune in this link cannot be read: ${error.message}.`;
+      this.page.questions.ask({ name: "link", words, answers: { Close: () => {} } });
       return null;
     });
     const data = new TextEncoder().encode(shared ?? "");
@@ -84,12 +93,17 @@ class StaticPage {
   connect(lock) {
     const { book, page, store } = this, keeper = store && new Keeper(book, store);
     this.keeper = keeper;
+    let isFirst = true;
     book.changed = () => {
       keeper?.soon();
+      if (isFirst) void keepForGood();
+      isFirst = false;
+      if (!keeper && book.isUnsaved) this.warn(NOT_KEPT);
       setPresentBook(book.id);
       if (location.hash) history.replaceState(null, "", location.pathname + location.search); // its text is a book of this browser now
     };
     book.keep = async () => keeper?.finish();
+    book.isKept = () => this.isLeaving || (keeper?.isKept ?? false);
     book.renamed = () => {
       page.book.name = book.name;
       page.titleBar.show();
@@ -98,8 +112,8 @@ class StaticPage {
     lock.wanted = () => this.finish();
     lock.lost = () => void this.lose();
     if (keeper) keeper.lost = () => void this.lose();
-    if (keeper) keeper.failed = (why) => this.say(`This browser does not keep the text (${why}): save it.`);
-    addEventListener("pagehide", () => void keeper?.finish());
+    if (keeper) keeper.failed = (why) => this.warn(`This browser does not keep the text (${why}): save it.`);
+    for (const name of ["beforeunload", "pagehide"]) addEventListener(name, () => void keeper?.finish());
     document.addEventListener("visibilitychange", () => (document.hidden ? void keeper?.finish() : void this.look()));
     addEventListener("focus", () => void this.look());
   }
@@ -107,6 +121,29 @@ class StaticPage {
   /** @type {(words: string) => void} */
   say(words) {
     this.page.status.say(words);
+  }
+
+  /** Warns that the text is only in this page: the next sentence of the status line does not replace that.
+   * @type {(words: string) => void} */
+  warn(words) {
+    const { questions, files } = this.page;
+    questions.ask({ name: "not kept", words, answers: { [this.saveName]: () => void files.save(), "Decide later": null } });
+  }
+
+  /** What the button is called that puts the text into a file. */
+  get saveName() {
+    return this.page.files.writes ? "Save" : "Download";
+  }
+
+  /** Acts, after a question if the text would be lost by that.
+   * @type {(act: () => void) => Promise<void>} */
+  async drop(act) {
+    await this.finish();
+    const { link, questions, files } = this.page;
+    if (link.isSafe) return act();
+    find("books-close").click();
+    const answers = { [this.saveName]: () => void files.save(), "Drop the text": act, Cancel: () => {} };
+    questions.ask({ name: "drop", about: act, words: ONLY_HERE, answers, focus: true });
   }
 
   /** Looks whether another program changed the file, if the page may read it. */
@@ -138,15 +175,27 @@ class StaticPage {
   /** Goes to a kept book, or to a new one.
    * @type {(id: string) => Promise<void>} */
   async go(id) {
-    await this.finish();
-    setPresentBook(id);
-    await this.leave();
+    await this.drop(() => {
+      setPresentBook(id);
+      this.reload("");
+    });
   }
 
-  /** Loads the page anew, with a fragment. All that was typed is in the store then.
+  /** Begins a new book. Without a store the present text can be taken back. */
+  async create() {
+    if (this.store) return this.go(newName());
+    await this.drop(() => void this.replace(NOTHING));
+  }
+
+  /** Loads the page anew, with a fragment. All that was typed is in the store then, or may be dropped.
    * @type {(fragment?: string) => Promise<void>} */
   async leave(fragment = "") {
-    await this.finish();
+    await this.drop(() => this.reload(fragment));
+  }
+
+  /** @type {(fragment: string) => void} */
+  reload(fragment) {
+    this.isLeaving = true;
     history.replaceState(null, "", location.pathname + location.search + fragment);
     location.reload();
   }
@@ -155,8 +204,7 @@ class StaticPage {
    * @type {(id: string) => Promise<void>} */
   async forget(id) {
     await this.store?.forget(id);
-    const { prefix } = new Drafts(id, "");
-    for (const key of Object.keys(localStorage)) if (key.startsWith(prefix)) localStorage.removeItem(key);
+    new Drafts(id, "").forgetBook();
   }
 
   /** Lets the user pick a file to open. */
@@ -187,15 +235,19 @@ class StaticPage {
 
   /** Opens a file as a book of its own. The present one stays in the store; without a store it can be undone.
    * @type {(opened: Opened) => Promise<void>} */
-  async take({ name, data, file }) {
-    const { store, page, book } = this, id = newName();
-    if (store) {
-      await store.keep({ id, name, title: "", tunes: 0, unsaved: false }, { data, disk: data, handle: file?.handle ?? null });
-      return this.go(id);
-    }
+  async take(opened) {
+    const { name, data, file } = opened, id = newName(), content = { data, disk: data, handle: file?.handle ?? null };
+    const kept = this.store?.keep({ id, name, title: "", tunes: 0, unsaved: false }, content).then(() => true, () => false);
+    if (await kept) return this.go(id);
+    await this.drop(() => void this.replace(opened));
+  }
+
+  /** Makes another book that of this page.
+   * @type {(opened: Opened) => Promise<void>} */
+  async replace(opened) {
     find("books-close").click();
-    await page.link.flush().catch(() => {});
-    await book.replace({ name, data, file });
+    this.page.questions.withdraw("not kept");
+    await this.book.replace(opened);
   }
 
   /** Asks whether to load a newer page.
@@ -224,11 +276,12 @@ function setPresentBook(id) {
   }
 }
 
-if (Session.isSupported()) {
+const lacking = lackingFeatures();
+if (!lacking.length) {
   new StaticPage().open();
 } else {
   const dialog = /** @type {HTMLDialogElement} */ (find("unable"));
-  find("unable-words").textContent = "This browser cannot run the page: its WebAssembly is missing or too old. Use Chromium 94, Firefox 93, Safari 16.4 or a later one of them.";
+  find("unable-words").textContent = `This browser cannot run the page: it lacks ${lacking.join(", ")}. Use Chromium 105, Firefox 121, Safari 16.4 or a later one of them.`;
   dialog.addEventListener("close", () => dialog.showModal());
   dialog.showModal();
 }

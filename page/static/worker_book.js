@@ -1,16 +1,16 @@
 // The book of a page without a server: its text, what the compiler finds in it, and its file. It is asked as a server is.
 
-import { joined } from "./ancestry.js";
+import { difference as rowsDifference, without } from "../link/finding_rows.js";
+import { joined } from "../link/version_ancestry.js";
+import { difference } from "../text/line_edits.js";
 import { BookText } from "./book_text.js";
 import { CompiledBook } from "./compiled_book.js";
-import { difference } from "./lines.js";
-import { difference as rowsDifference, without } from "./rows.js";
-import { SENTENCES } from "./sentences.js";
+import { SENTENCES } from "./fault_sentences.js";
 
-/** @typedef {import("./rows.js").Edit} Edit
+/** @typedef {import("../link/finding_rows.js").Edit} Edit
  * @typedef {import("./compiled_book.js").Rows} Rows
  * What asks for a change: a version and a window, and what is asked.
- * @typedef {{ version: number, window: string } & Partial<Edit> & { has?: import("./ancestry.js").Edits, over?: string | null, sees?: import("./seen.js").Want | null }} Asked
+ * @typedef {{ version: number, window: string } & Partial<Edit> & { has?: import("../link/version_ancestry.js").Edits, over?: string | null, sees?: import("../link/tokens_and_plays.js").Want | null }} Asked
  * A content of the file, with a name that no other content had; the name is null if there is no file.
  * @typedef {{ name: string | null, text: BookText }} Content
  * A file that the user picked.
@@ -28,7 +28,7 @@ const EMPTY = new BookText(false, [""], false);
 
 export class WorkerBook {
   /** `saving` is how text becomes a file, `pick` lets the user pick a file to save into; it gets a name to propose.
-   * @param {import("./book_host.js").Saving} saving
+   * @param {import("../link/book_host.js").Saving} saving
    * @param {(name: string) => Promise<BookFile>} pick
    * @param {CompiledBook} compiled */
   constructor(saving, pick, compiled = new CompiledBook()) {
@@ -39,7 +39,7 @@ export class WorkerBook {
     this.compiled = compiled;
     this.run = String(Math.random());
     this.version = this.moment = 0; // the moment counts saves and what is known of the file, too
-    /** @type {import("./ancestry.js").Edits} */
+    /** @type {import("../link/version_ancestry.js").Edits} */
     this.has = { [this.run]: 0 }; // the edits that are in the text
     this.contents = 0; // of files that were seen
     this.id = "";
@@ -64,6 +64,7 @@ export class WorkerBook {
     this.renewed = () => {};
     this.changed = () => {}; // the text, its name or its file is another one
     this.keep = async () => {}; // keeps the book in the browser's store
+    this.isKept = () => false; // whether that store has the text
     this.renamed = () => {}; // the book has another name
   }
 
@@ -178,8 +179,8 @@ export class WorkerBook {
    * @param {Edit} edit
    * @param {BookText} text
    * @param {string | null} window
-   * @param {import("./ancestry.js").Edits} [has]
-   * @returns {Promise<import("./link.js").Change>} */
+   * @param {import("../link/version_ancestry.js").Edits} [has]
+   * @returns {Promise<import("../link/host_link.js").Change>} */
   async publish(edit, text, window, has = { [this.run]: this.version + 1 }) {
     const since = performance.now();
     const { written, removed } = await this.compiled.become(text).catch((error) => {
@@ -250,13 +251,13 @@ export class WorkerBook {
     });
   }
 
-  /** Goes on with another file, whose content is the text then. The window can take that back.
+  /** Goes on with another file, whose content is the text then, or with none. The window can take that back.
    * @type {(opened: { name: string, data: Uint8Array, file: BookFile | null }) => Promise<void>} */
   async replace({ name, data, file }) {
     await this.inTurn(async () => {
       Object.assign(this, { name, file });
       this.renamed();
-      this.present = this.content(BookText.of(data));
+      this.present = name ? this.content(BookText.of(data)) : { name: null, text: BookText.of(data) };
       await this.take(this.present);
       this.moment += 1;
       this.heard({ state: this.state });

@@ -1,9 +1,9 @@
 // What two texts that were made of one have at another place than this one.
 
-import { hunksOf } from "./hunks.js";
-import { commonEnds, replaced } from "./lines.js";
+import { commonEnds, replaced } from "./line_edits.js";
+import { hunksOf } from "./myers_diff.js";
 
-/** @typedef {import("./hunks.js").Hunk & { put: string[] }} Change letters start..stop of a text became others, which were `put` */
+/** @typedef {import("./myers_diff.js").Hunk & { put: string[] }} Change letters start..stop of a text became others, which were `put` */
 
 const MOST_MOVES = 20, MOST_CHARACTERS = 200_000; // of the lines that are not the same in all three texts
 

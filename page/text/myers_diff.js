@@ -1,6 +1,6 @@
 // Where two lists differ: the fewest items that are left out and put in, by the algorithm of Myers.
 
-import { commonEnds } from "./lines.js";
+import { commonEnds } from "./line_edits.js";
 
 /** The items start..stop of an old list became the items from..to of a new one.
  * @typedef {{ start: number, stop: number, from: number, to: number }} Hunk

@@ -1,10 +1,10 @@
 // Places and selections in a text, and where they are after lines became others.
 
-import { commonEnds, difference } from "./lines.js";
+import { commonEnds, difference } from "./line_edits.js";
 
 /** @typedef {{ line: number, column: number }} Place counted from 0, the column in UTF-16 units
  * @typedef {{ start: Place, end: Place, direction: string }} Selection
- * @typedef {import("./lines.js").Replacement} Replacement */
+ * @typedef {import("./line_edits.js").Replacement} Replacement */
 
 /** The selection of nothing at a place.
  * @param {Place} place

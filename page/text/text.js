@@ -1,11 +1,11 @@
 // The text of the book as its lines, what can be undone, and what the server does not have yet.
 
-import { History } from "./history.js";
-import { applyEdits, difference, replaced } from "./lines.js";
-import { merging } from "./merging.js";
+import { applyEdits, difference, replaced } from "./line_edits.js";
 import { movedSelection, selectionAt } from "./selection.js";
+import { merging } from "./three_way_merge.js";
+import { History } from "./undo_history.js";
 
-/** @typedef {import("./lines.js").Replacement} Replacement
+/** @typedef {import("./line_edits.js").Replacement} Replacement
  * @typedef {import("./selection.js").Selection} Selection
  * An edit on its way to the server: lines, for the lines start..stop of its text, which were `taken`.
  * @typedef {{ start: number, stop: number, lines: string[], taken: string[] }} Sent */
@@ -78,6 +78,19 @@ export class Text {
     this.put(edits);
   }
 
+  /** An edit of this window by a letter that is composed: `composed` adds the step.
+   * @type {(start: number, stop: number, put: string[]) => void} */
+  compose(start, stop, put) {
+    this.put([{ start, taken: this.lines.slice(start, stop), put }]);
+  }
+
+  /** The text had these lines before something was composed: that is one step, or none if they are there again.
+   * @type {(lines: string[], before: Selection, after: Selection) => void} */
+  composed(lines, before, after) {
+    const edit = difference(lines, this.lines);
+    if (edit) this.history.add({ edits: [{ start: edit.start, taken: lines.slice(edit.start, edit.stop), put: edit.put }], before, after });
+  }
+
   /** Several edits of this window, which are undone together and alone: in order, at places of the present text.
    * @type {(edits: Replacement[], before: Selection, after: Selection) => void} */
   change(edits, before, after) {
@@ -98,7 +111,7 @@ export class Text {
   }
 
   /** Makes the edits of a step; the selection after it. A text has a line, so a step that leaves none puts in an empty one.
-   * @type {(step: import("./history.js").Step | null) => Selection | null} */
+   * @type {(step: import("./undo_history.js").Step | null) => Selection | null} */
   go(step) {
     if (!step) return null;
     const { edits } = step;

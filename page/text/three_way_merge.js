@@ -1,13 +1,13 @@
 // What two windows made of the same lines, as one text: both edits are made, line by line, and inside a line letter by letter.
 
-import { hunksOf } from "./hunks.js";
-import { replaced } from "./lines.js";
+import { replaced } from "./line_edits.js";
+import { hunksOf } from "./myers_diff.js";
 
-/** @typedef {import("./lines.js").Replacement} Replacement
+/** @typedef {import("./line_edits.js").Replacement} Replacement
  * Items start..stop that a window or both changed: they are own.from..own.to in the one list, other.from..other.to in the other.
  * @typedef {{ start: number, stop: number, own: Range, other: Range, isOwn: boolean, isOther: boolean }} Meeting
  * @typedef {{ from: number, to: number }} Range
- * @typedef {import("./hunks.js").Hunk} Hunk
+ * @typedef {import("./myers_diff.js").Hunk} Hunk
  * A hunk with its rank among those of two windows that put something in at one place.
  * @typedef {Hunk & { rank?: number }} Placed
  * What is to be made of the own lines: edits, each at places of the lines that those before it leave. `isTwice` says whether both

@@ -1,6 +1,6 @@
 // What can be undone and done again: steps of line edits, which are moved over the edits of others.
 
-/** @typedef {import("./lines.js").Replacement} Replacement
+/** @typedef {import("./line_edits.js").Replacement} Replacement
  * @typedef {import("./selection.js").Selection} Selection
  * Lines start..stop became `count` others.
  * @typedef {{ start: number, stop: number, count: number }} Region

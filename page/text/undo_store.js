@@ -1,13 +1,13 @@
 // Keeps what can be undone while the page is loaded anew: in the browser's store of this tab, by the book.
 
-import { difference, replaced } from "./lines.js";
+import { difference, replaced } from "./line_edits.js";
 
 const MOST = 1_000_000; // characters
 const REST = 400; // milliseconds without an edit, after which it is kept
 const SLICE = 3; // milliseconds of work, after which a key has its turn
 const OFTEN = 255; // lines between two looks at the clock
 
-/** @typedef {import("./link.js").Change} Change */
+/** @typedef {import("../link/host_link.js").Change} Change */
 
 export class UndoStore {
   /** `ask` returns the changes of the server after a version; the store is that of the browser, but for tests.

@@ -1,8 +1,8 @@
 // The tune at the caret.
 
 export class CaretTune {
-  /** @param {import("./sheet.js").Sheet} sheet
-   * @param {import("./findings.js").Findings} findings */
+  /** @param {import("../editor/text_sheet.js").Sheet} sheet
+   * @param {import("../link/findings.js").Findings} findings */
   constructor(sheet, findings) {
     this.sheet = sheet;
     this.findings = findings;

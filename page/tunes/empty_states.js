@@ -1,9 +1,9 @@
 // What the page says when there is nothing to show: no tune, no notes, no file.
 
-import { show } from "./elements.js";
+import { show } from "../base/elements.js";
 
-/** @typedef {import("./rows.js").TuneRow} TuneRow
- * @typedef {import("./rows.js").FaultRow} FaultRow */
+/** @typedef {import("../link/finding_rows.js").TuneRow} TuneRow
+ * @typedef {import("../link/finding_rows.js").FaultRow} FaultRow */
 
 /** A tune to begin with. */
 export const STARTER = ["X:1", "T:My first tune", "M:4/4", "L:1/8", "Q:1/4=120", "K:G", "|: G2 B2 d2 B2 | c2 A2 G4 :|", ""];
@@ -44,7 +44,7 @@ function whyNoFile([line, number], rows, faults) {
 
 export class Starter {
   /** Offers a tune over an empty sheet.
-   * @param {import("./sheet.js").Sheet} sheet
+   * @param {import("../editor/text_sheet.js").Sheet} sheet
    * @param {HTMLElement} root */
   constructor(sheet, root) {
     this.sheet = sheet;

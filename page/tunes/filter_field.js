@@ -1,10 +1,10 @@
 // The field that filters the list of the tunes, and how many there are.
 
-import { field, find, write } from "./elements.js";
+import { field, find, write } from "../base/elements.js";
 
 export class TuneFilter {
-  /** @param {import("./tunes.js").Tunes} tunes
-   * @param {import("./findings.js").Findings} findings */
+  /** @param {import("./tune_list.js").Tunes} tunes
+   * @param {import("../link/findings.js").Findings} findings */
   constructor(tunes, findings) {
     this.tunes = tunes;
     this.findings = findings;

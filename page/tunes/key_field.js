@@ -1,6 +1,6 @@
 // The value of a `K:` field by docs/rules.md, and the same key some semitones higher.
 
-import { movedSign, nameOf, noteOf, pitchOf, wordsOfSign } from "./pitches.js";
+import { movedSign, nameOf, noteOf, pitchOf, wordsOfSign } from "./pitch_names.js";
 
 /** The value of a `K:`. `tonic` is empty without one; `mode` has the blanks before it; `words` are the words after both, and the blanks
  * between them. `isExplicit` is whether the listed accidentals are the whole signature, `isOfProperties` whether the value sets none.

@@ -1,12 +1,12 @@
 // The link to the MIDI files of the whole book, in a .zip.
 
-import { find, show } from "./elements.js";
+import { find, show } from "../base/elements.js";
 
 export class AllMidi {
-  /** @param {import("./book_host.js").BookHost} server
-   * @param {import("./link.js").Link} link
+  /** @param {import("../link/book_host.js").BookHost} server
+   * @param {import("../link/host_link.js").Link} link
    * @param {{ name: string }} book
-   * @param {import("./findings.js").Findings} findings */
+   * @param {import("../link/findings.js").Findings} findings */
   constructor(server, link, book, findings) {
     this.server = server;
     this.link = link;

@@ -1,9 +1,9 @@
 // A new tune at the end of the book, with the next free number.
 
-import { nextNumber } from "./numbers.js";
+import { nextNumber } from "./tune_numbers.js";
 
-/** @typedef {import("./lines.js").Replacement} Replacement
- * @typedef {import("./selection.js").Selection} Selection */
+/** @typedef {import("../text/line_edits.js").Replacement} Replacement
+ * @typedef {import("../text/selection.js").Selection} Selection */
 
 const TITLE = "New tune";
 const FIELDS = ["M:4/4", "L:1/8", "K:C", ""];
@@ -21,7 +21,7 @@ export function newTune(lines, numbers) {
 }
 
 /** Puts a new tune into the text of a sheet, in a step that can be undone, with its title selected; whether there was a number for it.
- * @type {(sheet: import("./sheet.js").Sheet, numbers: number[]) => boolean} */
+ * @type {(sheet: import("../editor/text_sheet.js").Sheet, numbers: number[]) => boolean} */
 export function beginTune(sheet, numbers) {
   const found = newTune(sheet.text.lines, numbers);
   if (!found) return false;

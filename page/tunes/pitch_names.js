@@ -1,8 +1,8 @@
 // Notes and names of tones as they are written: letters, octaves, accidentals.
 
 const NOTE = /^(\^\^?|__?|=)?([A-Ga-g])([',]*)$/;
-const LETTERS = "CDEFGAB";
-const NATURALS = [0, 2, 4, 5, 7, 9, 11];
+export const LETTERS = "CDEFGAB";
+export const NATURALS = [0, 2, 4, 5, 7, 9, 11]; // semitones of the letters above C
 const SIGN_WORDS = ["__", "_", "=", "^", "^^"];
 /** @type {Record<string, number>} */
 const SIGNS = { "^": 1, "^^": 2, _: -1, __: -2, "=": 0 };

@@ -1,6 +1,6 @@
 // Tidies lines of music, which play the same afterwards: one space between beats, bar lines below each other, lengths as short as they can be.
 
-/** @typedef {import("./seen.js").Token} Token
+/** @typedef {import("../link/tokens_and_plays.js").Token} Token
  * @typedef {{ text: string, tokens: Token[] }} Line
  * What is tidied.
  * @typedef {{ spaces: boolean, bars: boolean, lengths: boolean }} Choices

@@ -1,12 +1,12 @@
 // Transposes lines of a tune, or a part of them: notes, keys and names of chords. All notes of a key move by the same number of letters, so
 // accidentals stay where they were. A part begins with its new key, and the old one follows after it.
 
-import { keyOf, keysAbove, signatureOf, valueOf } from "./key_fields.js";
-import { movedSign, nameOf, noteOf, pitchOf, wordsOfNote } from "./pitches.js";
+import { keyOf, keysAbove, signatureOf, valueOf } from "./key_field.js";
+import { movedSign, nameOf, noteOf, pitchOf, wordsOfNote } from "./pitch_names.js";
 
-/** @typedef {import("./key_fields.js").Key} Key
- * @typedef {import("./selection.js").Place} Place
- * @typedef {import("./seen.js").Token} Token
+/** @typedef {import("./key_field.js").Key} Key
+ * @typedef {import("../text/selection.js").Place} Place
+ * @typedef {import("../link/tokens_and_plays.js").Token} Token
  * @typedef {{ text: string, tokens: Token[] }} Line
  * A part of lines, its places counted from the first of them.
  * @typedef {{ start: Place, end: Place }} Range

@@ -1,6 +1,6 @@
 // A filter of the tunes by number or title: accents and capitals do not count.
 
-/** @typedef {import("./rows.js").TuneRow} TuneRow */
+/** @typedef {import("../link/finding_rows.js").TuneRow} TuneRow */
 
 /** @type {Record<string, string>} */
 const ALIKE = { ø: "o", ł: "l", đ: "d", ð: "d", þ: "th", æ: "ae", œ: "oe", ß: "ss", "’": "'" };

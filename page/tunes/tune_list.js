@@ -1,12 +1,13 @@
 // The list of the tunes: rows are made for those that are seen. A row stays one element for as long as it is drawn, so that
 // the press and the release of a click meet the same one.
 
-import { write } from "./elements.js";
-import { Filter, folded } from "./filter.js";
-import { onceAFrame } from "./frames.js";
-import { onResize } from "./resizing.js";
+import { write } from "../base/elements.js";
+import { onResize } from "../base/on_resize.js";
+import { onceAFrame } from "../base/once_a_frame.js";
+import { counted } from "../base/plural.js";
+import { Filter, folded } from "./tune_filter.js";
 
-/** @typedef {import("./rows.js").TuneRow} TuneRow */
+/** @typedef {import("../link/finding_rows.js").TuneRow} TuneRow */
 
 const BEYOND = 2; // rows drawn above and below those that are seen
 const LIGHT = 480, FADE = 1120; // milliseconds
@@ -193,15 +194,15 @@ export class Tunes {
   /** Writes into a row what its tune is now, if it is another one than before.
    * @type {(row: HTMLElement, at: number) => void} */
   write(row, at) {
-    const [, number, title, hasFile] = this.rows[at], faults = this.faultsOf(this.rows[at]), counted = faults ? `${faults} fault${faults === 1 ? "" : "s"}` : "";
+    const [, number, title, hasFile] = this.rows[at], faults = this.faultsOf(this.rows[at]), description = faults ? counted(faults, "fault") : "";
     const text = [number, title, hasFile, faults, this.lit.get(number), at === this.at, at === this.here, this.rows.length].join();
     if (text === this.texts.get(at)) return;
     this.texts.set(at, text);
     row.ariaSelected = String(at === this.here);
     row.ariaSetSize = String(this.rows.length);
     row.className = `${this.lit.get(number) ?? ""} ${at === this.at ? "at" : ""} ${hasFile ? "" : "silent"} ${faults ? "faulty" : ""}`;
-    row.title = hasFile ? [title, counted].filter(Boolean).join(": ") : "This tune has no file: it is too long, or another one has its number.";
-    row.setAttribute("aria-description", counted);
+    row.title = hasFile ? [title, description].filter(Boolean).join(": ") : "This tune has no file: it is too long, or another one has its number.";
+    row.setAttribute("aria-description", description);
     const [name, words] = /** @type {HTMLElement[]} */ ([...row.children]);
     write(name, String(number));
     write(words, title || "(no title)");

@@ -1,6 +1,6 @@
 // Numbers for tunes that need one.
 
-const LARGEST = 999_999_999; // number of a tune
+export const LARGEST = 999_999_999; // number of a tune
 
 /** The first number after another one that no tune has; null if there is none.
  * @type {(numbers: number[], after: number) => number | null} */

@@ -23,23 +23,26 @@ def start(module: str) -> int:
 
 
 def status_of(main: Callable[[], int]) -> int:
-    """Runs a client; its exit status. Ctrl-C that it does not hear, as while it reads its arguments, ends the process."""
+    """Runs a client; its exit status. Ctrl-C that it does not hear, as while it reads its arguments or after its end, ends the process."""
     try:
         return main()
     except KeyboardInterrupt:
         signal.signal(signal.SIGINT, signal.SIG_DFL)
         os.kill(os.getpid(), signal.SIGINT)
         raise
+    finally:
+        if signal.getsignal(signal.SIGINT) is signal.default_int_handler:
+            signal.signal(signal.SIGINT, signal.SIG_DFL)
 
 
 def watch() -> int:
     """Runs the watcher."""
-    return start("abc2midi_live_clients.watcher")
+    return start("abc2midi_live_clients.watch.command")
 
 
 def page() -> int:
     """Runs the page's server."""
-    return start("abc2midi_live_clients.page_server")
+    return start("abc2midi_live_clients.page.command")
 
 
 def language_server() -> int:

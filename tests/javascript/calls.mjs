@@ -3,13 +3,13 @@
 import { readFileSync } from "node:fs";
 import { pathToFileURL } from "node:url";
 
-import { run, same } from "../clients/testing.mjs";
+import { run, same } from "../page/testing.mjs";
 
 const folder = process.argv[2];
 const load = (name) => import(pathToFileURL(`${folder}/${name}`));
 const { AbcError, EditError, Engine, Session, TrapError, isSupported } = await load("index.js");
 const { WorkerSession } = await load("worker.js");
-const faults = JSON.parse(readFileSync(new URL("../../python/abc2midi_live_clients/faults.json", import.meta.url)));
+const faults = JSON.parse(readFileSync(new URL("../../python/abc2midi_live_clients/common/faults.json", import.meta.url)));
 
 const HEADER = readFileSync(new URL("../../c/abc2midi_live.h", import.meta.url), "utf-8");
 const SCALE = "X:1\nT:Scale\nK:C\nCDEF GABc|\n";
@@ -169,6 +169,34 @@ await run({
     same(session.play(1), [[], first, [bar(0, 6, 1, 3), silent(0), bar(240, 6, 12, 14), silent(240), bar(480, 6, 12, 14)]]);
     same([0, 2, -1, 2 ** 32 + 1].map((number) => session.play(number)), [null, null, null, null]);
     same(await thrown(() => session.play("1")), "TypeError");
+    session.close();
+  },
+  "a play that is longer than the room of a session is whole, and is worked out twice": async () => {
+    const { exports } = await WebAssembly.instantiate(new WebAssembly.Module(readFileSync(`${folder}/abc2midi_live.wasm`)));
+    const calls = [], counted = (name) => [name, (...words) => { calls.push(name); return exports[name](...words); }];
+    const engine = new Engine({ ...exports, ...Object.fromEntries(["abc_live_tracks", "abc_live_play"].map(counted)) });
+    const session = await Session.open({ engine });
+    session.insert(1, `X:1\nK:C\n${"C".repeat(300)}\n`);
+    same(session.play(1)[1].map(({ on, from }) => [on, from]), Array.from({ length: 300 }, (_, n) => [240 * n, n + 1]));
+    same(calls, ["abc_live_tracks", "abc_live_play"]);
+    session.close();
+  },
+  "each entry has its own key and velocity": async () => {
+    const { ENTRY_SIZE, entryAt } = await load("plays.js");
+    const view = new DataView(new ArrayBuffer(129 * ENTRY_SIZE)), keys = Array.from({ length: 129 }, (_, key) => key);
+    for (const key of keys) new Uint8Array(view.buffer, key * ENTRY_SIZE + 28, 3).set([1, key, 127 - (key % 128)]); // by the header
+    const sounds = keys.map((key) => entryAt(view, key, () => [])).map(({ kind, key, velocity }) => ({ kind, key, velocity }));
+    const wanted = keys.map((key) => (key < 128 ? { kind: "Note", key, velocity: 127 - key } : { kind: "Note", key: null, velocity: null }));
+    same(sounds, wanted);
+  },
+  "an entry has the columns of the line after an edit": async () => {
+    const session = await sessionOf('X:1\nK:C\n"\u00e9"C\n');
+    const places = () => [session.play(1)[1][0], session.tokens(3)[1]].map(({ from, to, utf16From, utf16To }) => [from, to, utf16From, utf16To]);
+    same(places(), [[5, 6, 4, 5], [5, 6, 4, 5]]);
+    session.replace(3, 3, '"ab"C\n');
+    same(places(), [[5, 6, 5, 6], [5, 6, 5, 6]]);
+    session.setText('X:1\nK:C\n"\u00e9"C\n');
+    same(places(), [[5, 6, 4, 5], [5, 6, 4, 5]]);
     session.close();
   },
   "plays that are longer than the room for answers, and too long": async () => {

@@ -16,7 +16,7 @@ TOP = Path(__file__).resolve().parent.parent.parent
 TESTS = TOP / "tests/javascript"
 SECONDS = 600  # that a command may take, on a slow machine too
 
-sys.path[:0] = [str(TOP / "tests/c_library"), str(TOP / "tests/clients")]
+sys.path[:0] = [str(TOP / "tests/c_library"), str(TOP / "tests/clients/shared")]
 import streams  # noqa: E402
 
 program: Optional[str] = None

@@ -3,7 +3,7 @@
 import { readFileSync } from "node:fs";
 import { pathToFileURL } from "node:url";
 
-import { run, same } from "../clients/testing.mjs";
+import { run, same } from "../page/testing.mjs";
 
 const folder = process.argv[2];
 const { Engine, OutOfMemory, Session } = await import(pathToFileURL(`${folder}/index.js`));

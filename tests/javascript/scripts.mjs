@@ -1,6 +1,6 @@
 // Tries the scripts of the package that need no module. Each test prints a line, `ok` or `FAILED`, with its name.
 
-import { chances, run, same } from "../clients/testing.mjs";
+import { chances, run, same } from "../page/testing.mjs";
 import { fewEdits } from "../../javascript/edits.js";
 import { errorOf, BadRange } from "../../javascript/errors.js";
 import { byteColumnOf, bytesOfBook, bytesOfLines, countLines, hasLongLine, numberFor, textOf, utf16ColumnOf } from "../../javascript/lines.js";
@@ -61,6 +61,15 @@ await run({
     const order = (...numbers) => bytes(numbers.map(tune).join(""));
     same(fewEdits(order(1, 2, 3, 4, 5), order(1, 4, 2, 3, 5)).length, 2);
   },
+  "far edits of the longest text are two if it has room for both on the way": () => {
+    const most = 1048576, removed = "R\n".repeat(100), added = "A\n".repeat(10);
+    for (const [room, count] of [[0, 1], [9, 1], [10, 2]]) {
+      const middle = `X:1\n${"\n".repeat(most - room - 102)}X:2\n`, old = bytes(removed + middle), now = bytes(middle + added);
+      const edits = fewEdits(old, now);
+      same(edits.length, count);
+      if (count === 2) same(edits.map(({ start, stop }) => [start, stop]), [[0, 100], [most - room, most - room]]);
+    }
+  },
   "the lines of a text, an array and a book": () => {
     same(text(bytesOfLines("A\nB")), "A\nB");
     same(text(bytesOfLines(["A", bytes("B"), ""])), "A\nB\n\n");
@@ -80,9 +89,9 @@ await run({
     same([0, 1, 4294967295, 4294967296, -1].map(numberFor), [0, 1, 4294967295, null, null]);
     for (const wrong of ["1", 1.5, NaN, null, undefined, 1n]) same(thrown(() => numberFor(wrong)), "TypeError");
   },
-  "a line is UTF-8, or else Latin-1": () => {
+  "a line is UTF-8, or else Windows-1252": () => {
     same(textOf(bytes("caf\u00e9 \u{1d11e}")), "caf\u00e9 \u{1d11e}");
-    same(textOf(new Uint8Array([0x63, 0xe9, 0x80, 0xff])), "c\u00e9\u0080\u00ff");
+    same(textOf(new Uint8Array([0x63, 0xe9, 0x80, 0x81, 0x93, 0x9f, 0xa0, 0xff])), "c\u00e9\u20ac\u0081\u201c\u0178\u00a0\u00ff");
     same(textOf(bytes("\ufeffA")), "\ufeffA");
   },
   "columns in bytes and in UTF-16 units": () => {

@@ -29,7 +29,7 @@ class InNode(common.Room):
         self.answer("worker", common.conversations()[::10])
 
     def test_calls(self) -> None:
-        self.assert_ok([*common.node(), str(common.TESTS / "calls.mjs"), str(common.package)], 20)
+        self.assert_ok([*common.node(), str(common.TESTS / "calls.mjs"), str(common.package)], 21)
 
     def test_memory(self) -> None:
         words = [*common.node(), "--expose-gc", str(common.TESTS / "memory.mjs"), str(common.package)]

@@ -2,6 +2,9 @@
 
 interface Array<T> {
   findLast(predicate: (value: T, index: number, all: T[]) => unknown): T | undefined;
+  findLastIndex(predicate: (value: T, index: number, all: T[]) => unknown): number;
+  toSpliced(start: number, count: number, ...items: T[]): T[];
+  with(index: number, value: T): T[];
 }
 
 declare class CompressionStream implements GenericTransformStream {
@@ -11,3 +14,13 @@ declare class CompressionStream implements GenericTransformStream {
 }
 
 declare class DecompressionStream extends CompressionStream {}
+
+/** Keeps the screen on. */
+interface WakeLockSentinel extends EventTarget {
+  readonly released: boolean;
+  release(): Promise<void>;
+}
+
+interface WakeLock {
+  request(type: "screen"): Promise<WakeLockSentinel>;
+}

@@ -18,8 +18,7 @@ class PageScripts(trial.Folder):
 
     def setUp(self) -> None:
         super().setUp()
-        for path in (trial.PACKAGES / "abc2midi_live_clients/page_files").glob("*.js"):
-            shutil.copy(path, self.files)
+        shutil.copytree(trial.TOP / "page", self.files, dirs_exist_ok=True)
         (self.files / "package.json").write_text('{"type": "module"}')
 
     def node(self, script: str, words: str = "", arguments: Sequence[str] = ()) -> list[str]:

@@ -13,7 +13,7 @@ from typing import Any, Optional, TypeVar
 
 import browser
 import ports
-import test_page
+import served_page
 import trial
 from forked_server import ForkedServer
 
@@ -54,8 +54,8 @@ const start = OscillatorNode.prototype.start;
 AudioParam.prototype.linearRampToValueAtTime = function (value, when) { louds.push(value); return ramp.call(this, value, when); };
 OscillatorNode.prototype.start = function (when) { waves.push(this.type); return start.call(this, when); };
 const act = async () => {
-  const { scoreOf } = await import("./midi.js");
-  const { Player } = await import("./player.js");
+  const { scoreOf } = await import("./music/midi_file.js");
+  const { Player } = await import("./music/player.js");
   const score = scoreOf(new Uint8Array(bytes).buffer);
   const player = new Player();
   await player.play(score);
@@ -75,7 +75,7 @@ HAND_MADE = bytes.fromhex(
     "4D54726B 00000025 00 C029 00 903C1E 8170 803C40 00 903E7F 8170 803E40 00 C005 00 904050 8170 804040 00 FF2F00"
     "4D54726B 0000000E 00 914369 8170 814340 8360 FF2F00"
 )
-CONTROL, HOME, END, BACKSPACE, ESCAPE, F8 = "\ue009", "\ue011", "\ue010", "\ue003", "\ue00c", "\ue038"
+CONTROL, SHIFT, HOME, END, BACKSPACE, ESCAPE, F8 = "\ue009", "\ue008", "\ue011", "\ue010", "\ue003", "\ue00c", "\ue038"
 TUNE = "X:1\nT:Scale\nM:3/4\nL:1/4\nQ:1/4=240\nK:C\nCEG|[Q:1/4=480]c2 z|\n"
 TUNES = [line for number in range(1, 101) for line in (f"X:{number}", f"T:Tune {number}", "K:C", "C", "")]
 STANDING = """
@@ -140,7 +140,7 @@ class Kept(unittest.TestResult):
 
 
 @unittest.skipIf(LACKING, LACKING)
-class Browser(test_page.Page):
+class Browser(served_page.Page):
     """Someone at the page. A test that fails is tried a second time, in a fresh browser. All tests of a process share one."""
 
     opening = b""
@@ -221,6 +221,7 @@ class Browser(test_page.Page):
         self.driver.switch_to.window(Browser.first_window)
         self.driver.get(f"http://127.0.0.1:{self.port}/")
         self.run_script("localStorage.clear(); sessionStorage.clear()")
+        self.driver.delete_all_cookies()
 
     def tearDown(self) -> None:
         """Nothing went wrong in the page, whatever the network did."""
@@ -328,8 +329,7 @@ class Editing(Browser):
         self.type(3 * BACKSPACE)
         self.wait(lambda: self.text("count") == "No faults" and not self.run_script(FAULTS))
         self.roll("2 bars, 0:01", "from C4 to C5")
-        self.press(ESCAPE)
-        self.press(" ")
+        self.press(" ", CONTROL)
         self.hear(0, 60)
         self.hear(0.2, 60, 64)
         self.hear(0.45, 60, 64, 67)
@@ -431,6 +431,69 @@ class Editing(Browser):
         self.assertEqual(len(set(self.run_script(colours))), 2)
         self.type("X:2\nK:C\n|:C|")
         self.wait(lambda: self.text("hinted") == "2 hints")
+
+    @opens_the_page
+    def test_faults_come_before_hints(self) -> None:
+        """The key goes through all faults, then through the hints, then begins again; with Shift it goes back the same way."""
+        self.kill()
+        self.start(str(self.path), hints=True)
+        self.load()
+        self.type("X:1\nK:C\n|:C|\n\nX:2\nK:C\nC -\n\nX:3\nK:C\n|:D|\n\nX:4\nK:C\nD -\n")
+        self.wait(lambda: self.text("count") == "2 faults" and self.text("hinted") == "2 hints")
+        self.press(HOME, CONTROL)
+        lines = ["C -", "D -", "|:C|", "|:D|", "C -"]
+        for line in lines:
+            self.press(F8)
+            self.stands_at(line)
+        for line in reversed(lines[:-1]):
+            self.press(F8, SHIFT)
+            self.stands_at(line)
+
+    @opens_the_page
+    def test_kinds_of_hints(self) -> None:
+        """A kind can be hidden in the book, or in all books, which is kept; a book of many hints says of how many kinds they are."""
+        choose = """
+            document.getElementById("hinted").click();
+            const choice = document.querySelector(`#hints select[aria-label="${arguments[0]}"]`);
+            const words = choice.parentElement.querySelector("b").textContent;
+            choice.value = arguments[1];
+            choice.dispatchEvent(new Event("change"));
+            document.getElementById("hints").close();
+            return words;
+        """
+        self.kill()
+        self.start(str(self.path), hints=True)
+        self.load()
+        self.type("X:1\nK:C\n|:C|\n\nX:2\nK:C\n|:D|\n\nX:3\nK:C\nC &D\n")
+        self.wait(lambda: self.text("hinted") == "3 hints")
+        self.assertEqual(self.run_script(choose, "OpenRepeat", "book"), "OpenRepeat: 2 hints")
+        self.wait(lambda: self.text("hinted") == "1 hint")
+        self.assertEqual(self.run_script("return document.querySelectorAll('mark.hint').length"), 1)
+        self.press("s", CONTROL)
+        self.wait(lambda: not self.is_unsaved())
+        self.load()
+        self.wait(lambda: self.text("hinted") == "1 hint")
+        self.run_script(choose, "Overlay", "all")
+        self.wait(lambda: self.text("hinted") == "Hints are hidden")
+        self.assertEqual(self.run_script("return document.cookie"), "abc2midi_live_hidden_hints=Overlay")
+        self.load()
+        self.wait(lambda: self.text("hinted") == "Hints are hidden")
+        for name in ("OpenRepeat", "Overlay"):
+            self.run_script(choose, name, "shown")
+        self.wait(lambda: self.text("hinted") == "3 hints")
+        self.type("\ue010", CONTROL)
+        self.put("".join(f"\nX:{number}\nK:C\n|:C|\n" for number in range(4, 104)))
+        self.wait(lambda: self.text("hinted") == "Hints of 2 kinds")
+
+    def test_escape_in_the_text(self) -> None:
+        """Where nothing is to be closed it does nothing: what is typed next is in the text."""
+        self.type("X:1\nK:C\nC")
+        self.settled("X:1\nK:C\nC")
+        for words in ("D", "E", " F"):
+            self.press(ESCAPE)
+            self.press(words)
+        self.settled("X:1\nK:C\nCDE F")
+        self.assertEqual(self.path.read_bytes(), b"")
 
     def test_a_number_of_two_tunes(self) -> None:
         self.type("X:1\nK:C\nC\n\nX:1\nK:C\nD")
@@ -583,7 +646,7 @@ class Losing(Browser):
         self.assertTrue(self.run_script(is_hidden))
         self.run_script("sessionStorage.setItem('abc2midi_live loads', '3')")
         self.driver.execute_cdp_cmd("Network.enable", {})
-        self.driver.execute_cdp_cmd("Network.setBlockedURLs", {"urls": ["*/midi.js"]})
+        self.driver.execute_cdp_cmd("Network.setBlockedURLs", {"urls": ["*/midi_file.js"]})
         self.driver.get(self.address)
         self.wait(lambda: self.run_script(seen))
         self.type("C")

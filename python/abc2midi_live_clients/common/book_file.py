@@ -1,13 +1,13 @@
 """A tune book on disk, and when an editor saved it."""
 
-import errno
 import os
-import stat
 import time
 from collections.abc import Callable
 from typing import BinaryIO, Optional
 
 from abc2midi_live.reading import bytes_of_book
+
+from .regular_file import open_regular
 
 SECONDS_TO_SETTLE = 0.01  # between two reads that must agree
 SECONDS_OF_EMPTINESS = 0.4  # an editor may empty a file before it writes it
@@ -78,18 +78,6 @@ class BookFile:
                 return None
         self.data, self.data_signature = data, signature
         return data
-
-
-def open_regular(path: str) -> BinaryIO:
-    """Opens a regular file for reading, also by a link to it. A pipe or a device would block the reader."""
-    descriptor = os.open(path, os.O_RDONLY | os.O_NONBLOCK | os.O_CLOEXEC)
-    mode = os.fstat(descriptor).st_mode
-    if stat.S_ISREG(mode):
-        return os.fdopen(descriptor, "rb")
-    os.close(descriptor)
-    if stat.S_ISDIR(mode):
-        raise IsADirectoryError(errno.EISDIR, os.strerror(errno.EISDIR))
-    raise OSError(errno.EINVAL, "Not a regular file")
 
 
 def signature_of(file: BinaryIO) -> Signature:

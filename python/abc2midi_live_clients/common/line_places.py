@@ -1,18 +1,27 @@
-"""Places in a text: bytes, characters and UTF-16 units; and where a fault ends."""
+"""Places in a text: bytes, characters and UTF-16 units."""
 
 from bisect import bisect_left, bisect_right
-from collections.abc import Iterable, Sequence
+from collections.abc import Sequence
 from itertools import accumulate
+from typing import Optional
 
-WITH_THEIR_LINE = frozenset(("BadLine", "BadProgram", "TextBlock", "FreeMusic", "NoTune", "LoneReturns"))
+# Windows-1252 is Latin-1 with more letters: bytes that are controls in Latin-1. It leaves five bytes out, which stay controls.
+WINDOWS_LETTERS = {byte: bytes([byte]).decode("cp1252") for byte in range(0x80, 0xA0) if byte not in b"\x81\x8d\x8f\x90\x9d"}
+WINDOWS_BYTES = {ord(letter): byte for byte, letter in WINDOWS_LETTERS.items()}
 
 
 def text_of(line: bytes) -> str:
-    """A line as text: UTF-8, or Latin-1 if it is not UTF-8."""
+    """A line as text: UTF-8, or Windows-1252 if it is not UTF-8."""
     try:
         return line.decode("utf-8")
     except UnicodeDecodeError:
-        return line.decode("latin-1")
+        return line.decode("latin-1").translate(WINDOWS_LETTERS)
+
+
+def windows_1252(text: str) -> Optional[bytes]:
+    """The bytes of a line that is read as this text, but is not UTF-8; None if there are none."""
+    data = text.translate(WINDOWS_BYTES).encode("latin-1", "replace")
+    return data if not data.isascii() and text_of(data) == text else None
 
 
 def utf8(text: str) -> bytes:
@@ -57,23 +66,15 @@ def is_character(data: bytes) -> bool:
         return False
 
 
-def end_of(line: bytes, column: int, name: str, tokens: Iterable[tuple[int, int]]) -> int:
-    """The column after a fault or a hint: that of the innermost token at its byte, or of the line if it is about that. Columns count
-    from 1, and a token has that of its first byte and the one after its last."""
-    if name in WITH_THEIR_LINE:
-        return len(line) + 1
-    return next((end for start, end in reversed([*tokens]) if start <= column < end), column + 1)
-
-
 class LinePlaces:
-    """The places of one line as windows see it: a half of a pair is one byte there, and so is each letter in Latin-1."""
+    """The places of one line as windows see it: a half of a pair is one byte there, and so is each letter in Windows-1252."""
 
-    def __init__(self, text: str, is_latin1: bool = False):
+    def __init__(self, text: str, is_utf8: bool = True):
         self.text = text
         self.bytes_before: Sequence[int] = range(len(text) + 1)
         self.units_before: Sequence[int] = range(len(text) + 1)
         if not text.isascii():
-            sizes = (1 if is_latin1 or "\udc00" <= character <= "\udcff" else len(utf8(character)) for character in text)
+            sizes = (1 if not is_utf8 or "\udc00" <= character <= "\udcff" else len(utf8(character)) for character in text)
             units = (2 if character > "\uffff" else 1 for character in text)
             self.bytes_before, self.units_before = [0, *accumulate(sizes)], [0, *accumulate(units)]
 

@@ -29,8 +29,3 @@ def number(data: bytes, at: int) -> tuple[int, int]:
         byte, at = data[at], at + 1
         value = value << 7 | byte & 0x7F
     return value, at
-
-
-def clock(seconds: float) -> str:
-    """A length in minutes and seconds, as `1:05`."""
-    return f"{round(seconds) // 60}:{round(seconds) % 60:02}"

@@ -1,19 +1,17 @@
-"""A tune book in a session, as the clients need it, and the options that all clients have."""
+"""A tune book in a session, as the clients need it."""
 
-import argparse
 import os
 from bisect import bisect_left
 from collections.abc import Sequence
-from typing import TYPE_CHECKING, Any, NamedTuple, Optional, cast
+from typing import TYPE_CHECKING, NamedTuple, Optional, cast
 
-import abc2midi_live
-from abc2midi_live import Built, Edit, Fault, LibraryMissing, ProcessSession, ProgramMissing, Report, Session, Title, Token
+from abc2midi_live import Built, Edit, Fault, ProcessSession, Report, Session, Title, Token
 from abc2midi_live.edits import edits, join_edits
 from abc2midi_live.lines import MOST_BYTES, MOST_LINES
-from abc2midi_live.opening import library_session
 from abc2midi_live.plays import Track
 
-from .places import end_of, is_inside_character, text_of
+from .faults import end_of
+from .line_places import is_inside_character, text_of
 
 if TYPE_CHECKING:
     from abc2midi_live.library import LibrarySession
@@ -45,41 +43,6 @@ class KnownTunes(NamedTuple):
     titles: list[Title]
     starts: list[int]
     tunes: list[Tune]
-
-
-def find_program() -> str:
-    """The program to start without the option `--program`. Raises ProgramMissing."""
-    try:
-        return abc2midi_live.find_program()
-    except ProgramMissing as missing:
-        raise ProgramMissing(f"{missing} by --program") from missing
-
-
-def open_library(library: Optional[str]) -> Session:
-    """A session over a library, or over the installed or built one. Raises LibraryMissing."""
-    try:
-        return library_session(library)
-    except LibraryMissing as missing:
-        raise LibraryMissing(str(missing) if library else f"{missing} by --library") from missing
-
-
-class ShowVersion(argparse.Action):
-    """The option `--version`."""
-
-    def __call__(self, parser: argparse.ArgumentParser, *_: Any) -> None:
-        print(f"{parser.prog} {abc2midi_live.version()}")
-        parser.exit()
-
-
-def add_common_options(parser: argparse.ArgumentParser) -> None:
-    """Adds the options of the clients over the program."""
-    parser.add_argument("--program", metavar="FILE", help="start this program instead of the installed or built one")
-    add_version_option(parser)
-
-
-def add_version_option(parser: argparse.ArgumentParser) -> None:
-    """Adds the option `--version`."""
-    parser.add_argument("--version", action=ShowVersion, nargs=0, help="print the version and end")
 
 
 class SessionBook:

@@ -22,6 +22,10 @@ NAMES = (
     "Overlay",
     "LostSharp",
     "BagpipeKey",
+    "LostFlat",  # foreign
+    "GermanNote",
+    "Markup",
+    "SurplusSyllables",  # lyrics
     "MidiLine",  # directives
     "LostProgram",
     "OpenRepeat",  # repeats

@@ -6,7 +6,7 @@ from collections.abc import Iterator, Sequence
 
 from abc2midi_live import Fault, TokenKind
 
-from ..program import Tune, files_of, lines_too_long
+from ..common.session_book import Tune, files_of, lines_too_long
 from .hint import Hint, counted
 from .line import BAD_BYTE, BAR_LINE, BLANK, FIELDS, KEY_FIELD, MUSIC, NO_EFFECT, NOTE, PART, REST, UNCLOSED, Line, is_blank
 
@@ -33,8 +33,9 @@ def same_numbers(tunes: Sequence[Tune], faults: Sequence[Fault]) -> list[Hint]:
     return [Hint(tune.line, 1, "SameNumber", number_is_used(tune.number, owners[tune.number].line)) for tune in others]
 
 
-def no_tune(lines: Sequence[bytes]) -> Iterator[Hint]:
-    """Yields a hint if a text without tunes is not empty; lone carriage returns have a hint of their own."""
+def no_tune(lines: Sequence[bytes], music: Sequence[Hint]) -> Iterator[Hint]:
+    """Yields a hint if a text without tunes is not empty, at its first music if it has any. Lone carriage returns have a hint of their
+    own."""
     first = next((n for n, line in enumerate(lines) if not is_blank(line)), None)
     if first is None or any(b"\r" in line[:-1] for line in lines[:2]):
         return
@@ -43,7 +44,7 @@ def no_tune(lines: Sequence[bytes]) -> Iterator[Hint]:
         text = "this text has no tune, and seems to be in UTF-16; save it in UTF-8"
     else:
         text = "this text has no tune, so there is no file; a tune begins with a line `X:1`"
-    yield Hint(first + 1, 1, "NoTune", text)
+    yield Hint(music[0].line if music else first, 1, "NoTune", text)
 
 
 def lone_returns(lines: tuple[bytes, ...]) -> Iterator[Hint]:
@@ -61,7 +62,7 @@ def not_utf8(lines: tuple[bytes, ...]) -> Iterator[Hint]:
         try:
             line.decode()
         except UnicodeDecodeError as error:
-            yield Hint(n, error.start + 1, NOT_UTF8, "this line is not UTF-8, and is shown as Latin-1; save the book in UTF-8")
+            yield Hint(n, error.start + 1, NOT_UTF8, "this line is not UTF-8, and is shown as Windows-1252; save the book in UTF-8")
             return
 
 

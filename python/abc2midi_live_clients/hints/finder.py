@@ -11,11 +11,13 @@ from abc2midi_live import Fault
 from abc2midi_live.edits import common_front
 from abc2midi_live.lines import MOST_BYTES
 
-from ..program import Tune
+from ..common.session_book import Tune
 from .bars import bars, short_tuplets
 from .book import NOT_UTF8, free_music, lone_returns, no_tune, not_utf8, same_numbers
 from .directives import midi_lines, programs_without_voice
+from .foreign import german_notes, lost_flats, markup
 from .hint import Hint
+from .lyrics import surplus_syllables
 from .reader import reader_here
 from .repeats import repeats
 from .ties import ties
@@ -30,11 +32,15 @@ OF_A_TUNE: tuple[Callable[[TuneText], Iterator[Hint]], ...] = (
     overlays,
     lost_sharps,
     bagpipe_keys,
+    german_notes,
+    markup,
+    surplus_syllables,
     programs_without_voice,
     repeats,
     music_before_voice,
     voice_lengths,
     bars,
+    lost_flats,
     short_tuplets,
     ties,
 )
@@ -69,7 +75,7 @@ class Finder:
 
     def take(self, lines: Sequence[bytes], tunes: Sequence[Tune], faults: Sequence[Fault]) -> None:
         """Takes a text, without looking at its tunes."""
-        self.others = same_numbers(tunes, faults) if tunes else list(no_tune(lines))
+        self.others = same_numbers(tunes, faults)
         self.uneven = {fault.line for fault in faults if fault.name == "UnevenVoices"}
         starts = [tune.line - 1 for tune in tunes[: MOST_TUNES + 1]]
         if len(starts) > MOST_TUNES:
@@ -132,15 +138,15 @@ def short_lines(lines: Lines) -> Lines:
 @lru_cache(maxsize=64)
 def read_opening(lines: Lines, has_tunes: bool, library: Optional[str]) -> tuple[Lines, Found]:
     """Returns the file header of the lines before the first tune, and the hints on them."""
-    lines = short_lines(lines)
+    text, lines = lines, short_lines(lines)
     found = [*lone_returns(lines), *(not_utf8(lines) if has_tunes else ())]
     reader = reader_here(library)
-    header = 0
+    header, music = 0, list[Hint]()
     if reader and lines:
         header, read = reader.file_header(lines), reader.free(lines)
         found += midi_lines(read, range(header))
-        if has_tunes:
-            found += free_music(read, 0, after_tune=False)
+        music = list(free_music(read, 0, after_tune=False))
+    found += music if has_tunes else no_tune(text, music)
     return lines[:header], tuple(sorted(found))
 
 

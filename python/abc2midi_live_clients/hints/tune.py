@@ -139,6 +139,11 @@ class TuneText:
         after = self.played.get(place, 0) + 1
         return place not in places[after : after + NEAR] and self._times[place] == 1
 
+    def note_length(self, place: Place) -> int:
+        """Returns the length of a note, 0 if it is not played."""
+        at = self.played.get(self.place(*place))
+        return self.play.off(at) - self.play.on(at) if self.play and at is not None else 0
+
     def length(self, item: Item) -> Optional[int]:
         """Returns the length of music, if it is played."""
         play, line, segment = self.play, item.line + self.first, item.segment

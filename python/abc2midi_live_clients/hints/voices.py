@@ -6,7 +6,7 @@ from collections.abc import Iterator
 from itertools import zip_longest
 from typing import Optional
 
-from ..places import text_of
+from ..common.line_places import text_of
 from .bars import Piece, fraction, pieces_of
 from .hint import Hint
 from .tune import UNNAMED, TuneText

@@ -5,10 +5,10 @@ from typing import Any, NamedTuple
 
 from abc2midi_live import Entry, EntryKind, Track
 
-from ..places import character_of
-from .changes import range_of
+from ..common.json_object import Json
+from ..common.line_places import character_of
 from .document import Document, TuneLines
-from .messages import Json
+from .text_changes import range_of
 from .workspace import Workspace
 
 Place = tuple[int, int]  # a line and a column, both from 1

@@ -2,7 +2,7 @@
 
 from typing import Any
 
-from .encodings import UTF16, encoding_for
+from .position_encodings import UTF16, encoding_for
 
 
 class Client:

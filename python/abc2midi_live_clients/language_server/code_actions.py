@@ -4,19 +4,20 @@ from collections import defaultdict
 from collections.abc import Iterable
 from typing import Any, Optional
 
-from .changes import Range, range_of
+from ..common.json_object import Json
+from .diagnostics import Remark, diagnostic, remarks_in
 from .document import Document
-from .field_fixes import FIELD_FIXES
-from .fix import Fix, Known, LineChange
-from .line_fixes import LINE_FIXES
-from .messages import Json
-from .music_fixes import MUSIC_FIXES
-from .note_fixes import NOTE_FIXES
+from .fixes.fields import FIELD_FIXES
+from .fixes.fix import Fix, Known, LineChange
+from .fixes.foreign import FOREIGN_FIXES
+from .fixes.lines import LINE_FIXES
+from .fixes.music import MUSIC_FIXES
+from .fixes.notes import NOTE_FIXES
 from .playing import play_action
-from .remarks import Remark, diagnostic, remarks_in
+from .text_changes import Range, range_of
 from .workspace import Workspace
 
-FIXES = {**LINE_FIXES, **FIELD_FIXES, **MUSIC_FIXES, **NOTE_FIXES}
+FIXES = {**LINE_FIXES, **FIELD_FIXES, **MUSIC_FIXES, **NOTE_FIXES, **FOREIGN_FIXES}
 MOST_FIXES = 100  # that an editor is offered at once
 QUICK_FIX, FIX_ALL = "quickfix", "source.fixAll"
 KINDS = [QUICK_FIX, FIX_ALL]

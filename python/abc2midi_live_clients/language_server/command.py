@@ -5,9 +5,9 @@ import sys
 
 from abc2midi_live import LibraryMissing
 
-from ..players import Player, command
-from ..program import add_version_option, open_library
-from ..signals import when_told_to_end
+from ..common.options import add_version_option, open_library
+from ..common.player import Player, command
+from ..common.signals import when_told_to_end
 from .messages import BadMessage, write_message
 from .server import Server
 from .workspace import Settings
@@ -22,6 +22,7 @@ def arguments() -> argparse.Namespace:
     parser.add_argument("--library", metavar="FILE", help="compile by this C library instead of the installed or built one")
     add_version_option(parser)
     parser.add_argument("--no-hints", action="store_true", help="show no hints")
+    parser.add_argument("--stdio", action="store_true", help=argparse.SUPPRESS)  # many editors add it; there is no other way
     return parser.parse_args()
 
 

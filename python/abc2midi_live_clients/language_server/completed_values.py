@@ -6,7 +6,7 @@ from typing import Any, NamedTuple
 
 from .general_midi import PROGRAMS
 
-TABLE: dict[str, Any] = json.loads(Path(__file__).parents[1].joinpath("completion.json").read_text("utf-8"))  # which the page reads, too
+TABLE: dict[str, Any] = json.loads(Path(__file__).parents[1].joinpath("common/completion.json").read_text("utf-8"))  # which the page reads, too
 
 
 class Item(NamedTuple):

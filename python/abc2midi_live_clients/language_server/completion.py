@@ -4,11 +4,12 @@ from typing import Any, NamedTuple, Optional
 
 from abc2midi_live import TokenKind
 
-from .changes import position_of
+from ..common.json_object import Json
 from .completed_values import TABLE, Item, decorations, programs, values_of
 from .document import Document
-from .messages import AS_SNIPPET, KEYWORD, SNIPPET, VALUE, Json
-from .names import BLANKS, VOICE, names_in
+from .messages import AS_SNIPPET, KEYWORD, SNIPPET, VALUE
+from .text_changes import position_of
+from .voice_and_part_names import BLANKS, VOICE, names_in
 from .workspace import Workspace
 
 TUNE = "X:{}\nT:${{1:title}}\nM:${{2:4/4}}\nL:${{3:1/8}}\nK:${{4:C}}\n$0"

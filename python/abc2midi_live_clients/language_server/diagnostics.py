@@ -7,12 +7,12 @@ from typing import NamedTuple, Optional, TypeVar
 
 from abc2midi_live import Fault
 
-from ..fault_groups import FaultGroup, groups_of, line_and_name
-from ..faults import sentence_pairs
+from ..common.faults import WITH_THEIR_LINE, FaultGroup, groups_of, line_and_name, sentence_pairs
+from ..common.json_object import Json
+from ..common.line_places import character_of
 from ..hints import NAMES, Hint
-from ..places import WITH_THEIR_LINE, character_of
 from .document import Document
-from .messages import ERROR, INFO, WARNING, Json
+from .messages import ERROR, INFO, WARNING
 
 LEAVE_OUT = {"TuneTooLong", "BadLine", "TooLarge"}  # faults by which a whole tune or line is left out
 MOST_FAULTS, MOST_HINTS = 1_000, 200  # of a book that an editor is sent

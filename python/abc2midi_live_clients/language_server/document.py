@@ -7,14 +7,15 @@ from typing import NamedTuple, Optional
 from abc2midi_live import Fault, PlayTooLong, Session, Track
 from abc2midi_live.lines import without_empty_end
 
+from ..common.json_object import Json
+from ..common.line_places import utf8
+from ..common.session_book import SessionBook, Tune, files_of
 from ..hints import MOST_AT_ONCE, Finder, Hint, number_is_used
-from ..places import utf8
-from ..program import SessionBook, Tune, files_of
-from .changes import Change, Position
 from .editor_lines import EditorLines
-from .encodings import UTF16, Encoding
-from .messages import REQUEST_FAILED, Failure, Json
+from .messages import REQUEST_FAILED, Failure
 from .played_files import PlayedFiles
+from .position_encodings import UTF16, Encoding
+from .text_changes import Change, Position
 from .token_texts import TokenText, token_texts
 
 
@@ -44,6 +45,7 @@ class Document:
         self.finder = finder  # of hints
         self.changed = 0  # the line of the last change
         self.is_lost = False  # a change could not be read, so the text is not the editor's
+        self.is_broken = False  # an exception came during a change, so the session may have another text
         self.book = SessionBook(session)
         self.files = PlayedFiles()
         self.forget()
@@ -85,6 +87,10 @@ class Document:
         if is_done or self.known_hints is None:
             self.known_hints = self.finder.found() if self.finder else []
         return is_done
+
+    def give_up_hints(self) -> None:
+        """Looks for no more hints on the present text."""
+        self.finder, self.known_hints = None, self.known_hints or []
 
     def has_all_hints(self) -> bool:
         """Returns whether all hints on the text are known, or none was asked for."""

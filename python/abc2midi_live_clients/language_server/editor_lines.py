@@ -5,9 +5,9 @@ The program cuts a text at line feeds. In the Language Server Protocol a carriag
 from bisect import bisect_right
 from typing import NamedTuple
 
-from ..program import splice_places
-from .changes import Position
-from .encodings import UTF16, Encoding
+from ..common.session_book import splice_places
+from .position_encodings import UTF16, Encoding
+from .text_changes import Position
 
 
 class Part(NamedTuple):

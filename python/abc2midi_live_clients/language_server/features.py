@@ -3,24 +3,25 @@
 from collections.abc import Callable
 from typing import Any
 
-from . import actions, bar_numbers, completion, folding, hover, names, outline, playing, semantic_tokens
-from .messages import INCREMENTAL, Json
+from ..common.json_object import Json
+from . import bar_numbers, code_actions, completion, folding, hover, outline, playing, semantic_tokens, voice_and_part_names
+from .messages import INCREMENTAL
 from .workspace import Workspace
 
 REQUESTS: dict[str, Callable[[Workspace, Any], Any]] = {
     "textDocument/documentSymbol": outline.document_symbols,
     "textDocument/foldingRange": folding.folding_ranges,
-    "textDocument/codeAction": actions.code_actions,
+    "textDocument/codeAction": code_actions.code_actions,
     "textDocument/codeLens": playing.lenses,
     "textDocument/hover": hover.hover,
     "textDocument/completion": completion.completion,
     "textDocument/semanticTokens/full": semantic_tokens.of_document,
     "textDocument/semanticTokens/range": semantic_tokens.of_range,
-    "textDocument/definition": names.definition,
-    "textDocument/references": names.references,
-    "textDocument/documentHighlight": names.highlights,
-    "textDocument/prepareRename": names.prepare_rename,
-    "textDocument/rename": names.rename,
+    "textDocument/definition": voice_and_part_names.definition,
+    "textDocument/references": voice_and_part_names.references,
+    "textDocument/documentHighlight": voice_and_part_names.highlights,
+    "textDocument/prepareRename": voice_and_part_names.prepare_rename,
+    "textDocument/rename": voice_and_part_names.rename,
     "textDocument/inlayHint": bar_numbers.inlay_hints,
     "workspace/symbol": outline.workspace_symbols,
     "workspace/executeCommand": playing.execute,
@@ -29,7 +30,7 @@ CAPABILITIES: Json = {
     "textDocumentSync": {"openClose": True, "change": INCREMENTAL, "save": {"includeText": True}},
     "documentSymbolProvider": True,
     "foldingRangeProvider": True,
-    "codeActionProvider": {"codeActionKinds": actions.KINDS},
+    "codeActionProvider": {"codeActionKinds": code_actions.KINDS},
     "codeLensProvider": {"resolveProvider": False},
     "hoverProvider": True,
     "completionProvider": {"triggerCharacters": [":", "%", "!", "="]},

@@ -6,9 +6,9 @@ from typing import Any, Optional
 
 from abc2midi_live import TokenKind
 
+from ..common.json_object import Json
 from .document import Document, TuneLines
-from .messages import Json
-from .names import PART, names_in
+from .voice_and_part_names import PART, names_in
 from .workspace import Workspace
 
 COMMENT, FREE_TEXT = "comment", "free text"

@@ -5,12 +5,13 @@ from typing import Any, NamedTuple, Optional
 
 from abc2midi_live import Entry, EntryKind, TokenKind
 
-from ..midi import clock, seconds_of
-from .changes import position_of
+from ..common.clock import clock
+from ..common.json_object import Json
+from ..common.midi_duration import seconds_of
+from .diagnostics import remarks_in
 from .document import Document, title_of
-from .messages import Json
+from .text_changes import position_of
 from .token_texts import TokenText
-from .remarks import remarks_in
 from .workspace import Workspace
 
 TICKS = 4 * 480  # of a whole note

@@ -2,10 +2,13 @@
 
 import json
 import sys
-from typing import Any, BinaryIO, Optional
+from typing import BinaryIO, Optional
+
+from ..common.json_object import Json
 
 # The protocol's numbers.
 PARSE_ERROR, INVALID_REQUEST, METHOD_NOT_FOUND, INVALID_PARAMS = -32700, -32600, -32601, -32602
+INTERNAL_ERROR = -32603
 NOT_INITIALIZED, REQUEST_FAILED, REQUEST_CANCELLED = -32002, -32803, -32800
 INCREMENTAL = 2  # changes of documents
 WHOLE = 1  # changes of documents that are sent as their whole text
@@ -19,7 +22,6 @@ DIGITS = len(str(LONGEST_MESSAGE))
 LONGEST_LINE = 4096  # of the header of a message
 PIECE = 1 << 20  # bytes that are read at once
 
-Json = dict[str, Any]
 
 
 class Failure(Exception):

@@ -6,10 +6,11 @@ from typing import Any, NamedTuple
 
 from abc2midi_live import TokenKind
 
+from ..common.json_object import Json
 from .document import Document, TuneLines, title_of
-from .messages import ARRAY, CLASS, MODULE, NAMESPACE, Json
-from .names import PART, Name, names_in
+from .messages import ARRAY, CLASS, MODULE, NAMESPACE
 from .token_texts import TokenText
+from .voice_and_part_names import PART, Name, names_in
 from .workspace import Workspace, name_of
 
 MOST_FOUND = 1_000  # tunes that a search in the workspace lists

@@ -4,15 +4,17 @@ from collections.abc import Iterable
 from itertools import chain
 from typing import Any, Optional
 
-from ..players import Player
-from ..program import Tune, files_of
-from .changes import Range, position_of
+from ..common.json_object import Json
+from ..common.player import Player
+from ..common.session_book import Tune, files_of
 from .document import Document, title_of
-from .messages import INFO, INVALID_PARAMS, REQUEST_FAILED, Failure, Json
+from .messages import INFO, INVALID_PARAMS, REQUEST_FAILED, Failure
+from .parameters import PLACE, check_form
+from .text_changes import Range, position_of
 from .workspace import Workspace
 
 PLAY, STOP = "abc2midi_live.play", "abc2midi_live.stop"
-OLD_PLAY = "play"  # as versions before 1.1 have it
+OLD_PLAY = "play"  # as 1.0.0 has it
 COMMANDS = [PLAY, STOP, OLD_PLAY]
 
 
@@ -25,6 +27,7 @@ def execute(workspace: Workspace, params: Any) -> Optional[str]:
         return None
     if command not in COMMANDS:
         raise Failure(INVALID_PARAMS, f"there is no command {command} here")
+    check_form({"arguments": [PLACE]}, params, "the parameters")
     where = params["arguments"][0]
     document = workspace.document(where)
     path = document.file_at(document.place(position_of(where["position"]))[0])

@@ -2,9 +2,9 @@
 
 import time
 
+from ..common.json_object import Json
+from .diagnostics import diagnostic, remarks_to_send
 from .document import Document
-from .messages import Json
-from .remarks import diagnostic, remarks_to_send
 
 REST, MOST_REST = 4, 1.0  # times the seconds that the last diagnostics took; seconds
 

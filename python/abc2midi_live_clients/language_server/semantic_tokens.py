@@ -5,11 +5,11 @@ from typing import Any, NamedTuple
 
 from abc2midi_live import TokenKind
 
-from .changes import Position, range_of
+from ..common.json_object import Json
 from .document import Document
-from .messages import Json
-from .token_texts import TokenText
+from .text_changes import Position, range_of
 from .token_styles import STYLES
+from .token_texts import TokenText
 from .workspace import Workspace
 
 TYPES = sorted({style.semantic for style in STYLES.values()})

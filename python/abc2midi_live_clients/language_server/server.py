@@ -1,16 +1,18 @@
 """The state of a session with an editor: which messages come when, and which function answers each."""
 
 import sys
+import traceback
 from collections.abc import Callable
 from typing import Any, BinaryIO, Optional
 
-from abc2midi_live import version
+from abc2midi_live import LibraryMissing, version
 
-from .changes import BadChange
-from .client import Client
+from ..common.json_object import Json
+from .client_capabilities import Client
 from .features import CAPABILITIES, REQUESTS
 from .inbox import NO_JSON, Inbox, is_request
 from .messages import (
+    INTERNAL_ERROR,
     INVALID_PARAMS,
     INVALID_REQUEST,
     METHOD_NOT_FOUND,
@@ -18,11 +20,12 @@ from .messages import (
     PARSE_ERROR,
     REQUEST_CANCELLED,
     Failure,
-    Json,
 )
-from .workspace import Settings, Workspace
+from .parameters import WrongParams, check
+from .text_changes import BadChange
+from .workspace import Settings, Workspace, why_of
 
-WRONG_PARAMS = (KeyError, TypeError, AttributeError, IndexError)
+ENDING = (ConnectionError, LibraryMissing)  # after these the server ends; after any other exception it goes on
 
 
 class Server:
@@ -49,7 +52,7 @@ class Server:
             if self.workspace.publisher.due and not inbox.has_more(self.workspace.publisher.seconds_of_rest):
                 self.publish_what_is_due()
             while not self.workspace.has_all_hints() and not inbox.has_more(0):
-                self.workspace.look_on()
+                self.guarded("hints", self.workspace.look_on)
             try:
                 message, is_cancelled = inbox.next()
             except EOFError:
@@ -74,11 +77,18 @@ class Server:
     def answer(self, identifier: Any, method: str, params: Any) -> None:
         """Answers a request."""
         try:
-            self.send({"id": identifier, "result": self.result(method, params)})
+            answer = {"id": identifier, "result": self.result(method, params)}
         except Failure as failure:
             self.refuse(identifier, *failure.args)
-        except (*WRONG_PARAMS, BadChange) as error:
+        except (WrongParams, BadChange) as error:
             self.refuse(identifier, INVALID_PARAMS, f"the parameters of {method} are wrong: {error}")
+        except ENDING:
+            raise
+        except Exception as error:
+            report(error)
+            self.refuse(identifier, INTERNAL_ERROR, f"{method} failed: {why_of(error)}")
+        else:
+            self.send(answer)
 
     def result(self, method: str, params: Any) -> Any:
         """The result of a request. Raises Failure if it comes at a wrong time, or is not known."""
@@ -92,24 +102,34 @@ class Server:
             return self.shutdown()
         if method not in REQUESTS:
             raise Failure(METHOD_NOT_FOUND, f"there is no method {method} here")
+        check(method, params)
         return REQUESTS[method](self.workspace, params)
 
     def follow(self, method: str, params: Any) -> None:
         """Follows a notification that is known and comes at its time."""
         if method == "exit" or self.initialized and not self.is_shut_down and method in self.notifications:
-            self.guarded(method, lambda: self.notifications[method](params))
+            self.guarded(method, lambda: self.checked(method, params))
 
     def publish_what_is_due(self) -> None:
         """Sends the diagnostics that waited for a rest."""
         for uri in list(self.workspace.publisher.due):
             self.guarded("textDocument/didChange", lambda: self.workspace.publish(uri))
 
+    def checked(self, method: str, params: Any) -> None:
+        """Does what a notification asks for, unless its parameters are wrong."""
+        check(method, params)
+        self.notifications[method](params)
+
     def guarded(self, method: str, work: Callable[[], None]) -> None:
         """Does what a notification asks for. Nobody waits for an answer, so what is wrong is a message."""
         try:
             work()
-        except WRONG_PARAMS as error:
+        except WrongParams as error:
             print(f"language_server: ignored a wrong {method}: {error}", file=sys.stderr)
+        except ENDING:
+            raise
+        except Exception as error:
+            report(error)
 
     def send(self, message: Json) -> None:
         """Sends a message."""
@@ -147,3 +167,9 @@ class Server:
         """Ends what is played, and each session, and removes their files: an editor may not wait for more."""
         self.workspace.end()
 
+
+
+def report(error: Exception) -> None:
+    """Prints an exception that this server should not raise, with its place."""
+    print("language_server: internal error:", file=sys.stderr)
+    traceback.print_exception(type(error), error, error.__traceback__)

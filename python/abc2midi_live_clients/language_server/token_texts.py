@@ -7,7 +7,7 @@ from typing import NamedTuple
 
 from abc2midi_live import Token, TokenKind
 
-from ..places import utf8
+from ..common.line_places import utf8
 
 
 class TokenText(NamedTuple):

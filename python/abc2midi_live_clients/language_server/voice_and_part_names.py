@@ -1,13 +1,15 @@
 """The names of voices and parts: where each is defined and used, and how it becomes another one."""
 
+import re
 from collections.abc import Iterator
 from typing import Any, NamedTuple, Optional
 
 from abc2midi_live import TokenKind
 
-from .changes import Position, position_of
+from ..common.json_object import Json
 from .document import Document, TuneLines
-from .messages import INVALID_PARAMS, REQUEST_FAILED, Failure, Json
+from .messages import INVALID_PARAMS, REQUEST_FAILED, Failure
+from .text_changes import Position, position_of
 from .token_texts import TokenText
 from .workspace import Workspace
 
@@ -15,11 +17,14 @@ VOICE, PART = "V", "P"
 BLANKS = " \t"
 PARTS = frozenset("ABCDEFGHIJKLMNOPQRSTUVWXYZ")
 NOT_IN_NAMES = frozenset(" \t\r\n%]")
+SCORE = re.compile(r"(?:%%|I:)[ \t]*(?:score|staves)(?=[ \t({\[])")  # a line that places voices on staves
+NOT_IN_SCORES = frozenset("()[]{}|*")
+WORD_OF_SCORE = re.compile(r"[^\s()\[\]{}|*%]+")
 READ, WRITE = 2, 3  # the kinds of a highlight
 
 
 class Name(NamedTuple):
-    """A name of a voice or part in a field: the field's letter, the name, its line and characters, and the token of the field."""
+    """A name of a voice or part in a field or a `%%score`: the field's letter, the name, its line and characters, and the token of the field."""
 
     letter: str
     text: str
@@ -28,6 +33,7 @@ class Name(NamedTuple):
     end: int
     is_in_header: bool
     token: TokenText
+    is_in_score: bool = False
 
     @property
     def key(self) -> tuple[str, str]:
@@ -65,6 +71,16 @@ def names_of(token: TokenText, is_in_header: bool) -> Iterator[Name]:
                 yield Name(PART, letter, token.line, start + place, start + place + 1, is_in_header, token)
 
 
+def names_in_scores(document: Document, tune: TuneLines) -> Iterator[Name]:
+    """Yields the names of voices in the lines of a tune that place voices on staves."""
+    for line in range(tune.start, tune.end):
+        for token in document.tokens(line):
+            score = SCORE.match(token.text) if token.start == 0 else None
+            end = token.text.find("%", score.end()) if score else -1  # a comment
+            for word in WORD_OF_SCORE.finditer(token.text, score.end(), end if end >= 0 else len(token.text)) if score else ():
+                yield Name(VOICE, word[0], line, word.start(), word.end(), False, token, True)
+
+
 class NamesHere(NamedTuple):
     """The names of the tune at a place, and the one at the place."""
 
@@ -77,14 +93,15 @@ class NamesHere(NamedTuple):
 
     def definition(self) -> Name:
         """Where the voice is declared first, or the part begins first."""
-        return next((name for name in self.same() if not (name.letter == PART and name.is_in_header)), self.here)
+        fields = (name for name in self.same() if not name.is_in_score)
+        return next((name for name in fields if not (name.letter == PART and name.is_in_header)), self.here)
 
 
 def names_at(document: Document, position: Position) -> Optional[NamesHere]:
     """Returns the names of the tune at a place, if one of them is there."""
     line, character = document.character(position)
     tune = document.tune_lines_at(line)
-    names = list(names_in(document, tune)) if tune else []
+    names = sorted((*names_in(document, tune), *names_in_scores(document, tune)), key=lambda name: name[2:4]) if tune else []
     near = [name for name in names if name.line == line and name.start <= character <= name.end]
     here = near[-1] if near else None  # between two names the one after the place
     return NamesHere(names, here) if here else None
@@ -146,5 +163,7 @@ def check_name(names: NamesHere, new: Any) -> None:
         raise Failure(INVALID_PARAMS, "the name of a part is one letter from A to Z")
     if letter == VOICE and (not isinstance(new, str) or not new or NOT_IN_NAMES & set(new)):
         raise Failure(INVALID_PARAMS, "the name of a voice has no blanks, no % and no ]")
+    if any(name.is_in_score for name in names.same()) and NOT_IN_SCORES & set(new):
+        raise Failure(INVALID_PARAMS, "the name of a voice in %%score has no bracket, no | and no *")
     if new != names.here.text and any(name.key == (letter, new) for name in names.all):
         raise Failure(INVALID_PARAMS, f"the tune has a {'voice' if letter == VOICE else 'part'} {new}")

@@ -4,16 +4,18 @@ from collections.abc import Callable
 from typing import Any, NamedTuple, Optional
 from urllib.parse import unquote
 
-from ..faults import sentences
+from ..common.faults import sentences
+from ..common.json_object import Json
+from ..common.options import open_library
+from ..common.player import Player
+from ..common.terminal_text import printable
 from ..hints import Finder
-from ..players import Player
-from ..printing import printable
-from ..program import open_library
-from .changes import BadChange, Change, changes_of
-from .client import Client
+from .client_capabilities import Client
 from .document import Document
-from .messages import ERROR, INVALID_PARAMS, REQUEST_FAILED, WHOLE, Failure, Json
-from .publishing import Publisher
+from .messages import ERROR, INVALID_PARAMS, REQUEST_FAILED, WHOLE, Failure
+from .parameters import WrongParams
+from .publisher import Publisher
+from .text_changes import BadChange, Change, changes_of
 
 
 class Settings(NamedTuple):
@@ -34,6 +36,7 @@ class Workspace:
         self.client = Client()
         self.words = sentences()
         self.documents: dict[str, Document] = {}
+        self.unopened: set[str] = set()  # books that could not be opened
         self.publisher = Publisher()
 
     # ---- what the editor reports
@@ -41,14 +44,28 @@ class Workspace:
     def open(self, params: Json) -> None:
         """An editor opens a tune book, which has a session of its own."""
         sent = params["textDocument"]
-        if sent["uri"] in self.documents:
-            self.documents.pop(sent["uri"]).close()
-        library, _, with_hints = self.settings
-        finder = Finder(library) if with_hints else None
-        document = Document(sent["text"], open_library(library), self.words, finder, self.client.encoding)
-        document.version = sent.get("version")
-        self.documents[sent["uri"]] = document
+        self.begin(sent["uri"], sent["text"], sent.get("version"))
         self.publish(sent["uri"])
+
+    def begin(self, uri: str, text: str, version: Any) -> None:
+        """Begins a session with a text. If that fails, the other books stay as they are, and a save tries it again."""
+        if uri in self.documents:
+            self.documents.pop(uri).close()
+        library, _, with_hints = self.settings
+        self.unopened.add(uri)
+        session = None
+        try:
+            finder = Finder(library) if with_hints else None
+            session = open_library(library)
+            document = Document(text, session, self.words, finder, self.client.encoding)
+        except Exception as error:
+            if session:
+                session.close()
+            self.show(f"{name_of(uri)} cannot be opened: {why_of(error)}. Save it, or open it again.")
+            raise
+        document.version = version
+        self.documents[uri] = document
+        self.unopened.discard(uri)
 
     def change(self, params: Any) -> None:
         """An editor changes a tune book. After a change that cannot be read only a whole text is taken."""
@@ -57,17 +74,31 @@ class Workspace:
             for each in self.documents:
                 self.lose(each, "a change does not say of which book it is")
             return
-        document = self.documents[uri]
+        if uri not in self.documents:
+            raise WrongParams(f"{name_of(uri)} is not open")
         try:
             changes = changes_of(params.get("contentChanges"))
         except BadChange as bad:
             self.lose(uri, str(bad))
             return
-        if not document.is_lost or changes and changes[0].range is None:
-            document.version = params["textDocument"].get("version")
+        if not self.documents[uri].is_lost or changes and changes[0].range is None:
+            self.follow(uri, changes, params["textDocument"].get("version"))
+            self.publisher.due[uri] = None
+
+    def follow(self, uri: str, changes: list[Change], version: Any) -> None:
+        """Makes changes. If one fails, the text is unknown, and a whole text begins another session."""
+        document = self.documents[uri]
+        if changes and changes[0].range is None and document.is_broken:
+            self.begin(uri, changes[0].text, version)
+            document, changes = self.documents[uri], changes[1:]
+        try:
             for change in changes:
                 document.change(change)
-            self.publisher.due[uri] = None
+            document.version = version
+        except Exception as error:
+            document.is_broken = True
+            self.lose(uri, why_of(error))
+            raise
 
     def lose(self, uri: str, why: str) -> None:
         """The text of a book is unknown: asks once for the whole text."""
@@ -81,21 +112,32 @@ class Workspace:
             asked = {"id": "whole", "method": "textDocument/didChange", "registerOptions": options}
             params = {"registrations": [asked]}
             self.send({"id": f"whole {uri}", "method": "client/registerCapability", "params": params})
-        text = f"abc2midi_live: the text of {name_of(uri)} is unknown: {why}. Save it, or open it again."
-        self.notify("window/showMessage", {"type": ERROR, "message": text})
+        self.show(f"the text of {name_of(uri)} is unknown: {why}. Save it, or open it again.")
+
+    def show(self, sentence: str) -> None:
+        """Shows a sentence to the user."""
+        self.notify("window/showMessage", {"type": ERROR, "message": f"abc2midi_live: {sentence}"})
 
     def save(self, params: Json) -> None:
         """An editor saved a tune book, and sends its text: if another one is known here, that text is taken."""
-        uri, text = params["textDocument"]["uri"], params.get("text")
+        uri, text, version = params["textDocument"]["uri"], params.get("text"), params["textDocument"].get("version")
+        if uri in self.unopened and isinstance(text, str):
+            self.begin(uri, text, version)
+            self.publish(uri)
+            return
+        if uri not in self.documents:
+            raise WrongParams(f"{name_of(uri)} is not open")
         document = self.documents[uri]
         if isinstance(text, str) and (document.is_lost or document.lines != text.split("\n")):
-            document.change(Change(None, text))
-            document.version = params["textDocument"].get("version")
+            self.follow(uri, [Change(None, text)], version)
             self.publish(uri)
 
     def close(self, params: Json) -> None:
         """An editor closes a tune book: its diagnostics go."""
         uri = params["textDocument"]["uri"]
+        self.unopened.discard(uri)
+        if uri not in self.documents:
+            raise WrongParams(f"{name_of(uri)} is not open")
         self.documents.pop(uri).close()
         self.clear(uri)
 
@@ -124,7 +166,12 @@ class Workspace:
         """Looks for hints in a long book for a moment, and sends its diagnostics when all are known."""
         for uri, document in self.documents.items():
             if not document.has_all_hints():
-                if document.look_on() and not document.is_lost:
+                try:
+                    is_done = document.look_on()
+                except Exception:
+                    document.give_up_hints()
+                    raise
+                if is_done and not document.is_lost:
                     self.publish(uri)
                 return
 
@@ -155,6 +202,11 @@ class Workspace:
 def name_of(uri: str) -> str:
     """Returns the name of the file of a document, for a person."""
     return printable(unquote(uri.rstrip("/").rpartition("/")[2]))
+
+
+def why_of(error: Exception) -> str:
+    """Returns why a book could not be followed, for a person."""
+    return "out of memory" if isinstance(error, MemoryError) else f"internal error, {type(error).__name__}: {error}"
 
 
 def uri_of(params: Any) -> Optional[str]:

@@ -3,7 +3,9 @@
 The address of a page has its token. So no command line has it: the browser is given the name of a file that only its owner may
 read, and this file leads to the address."""
 
+import hmac
 import http.client
+import json
 import os
 import re
 import secrets
@@ -13,9 +15,13 @@ from html import escape
 from pathlib import Path
 from typing import Optional
 
+from ..common.replaced_file import replacing
+from ..common.terminal_text import printable
+from .book_keys import book_key, proof
 from .saving import digest
 
 ADDRESS = re.compile(r"http://127\.0\.0\.1:(\d{1,5})(/[\w-]{32}/)")
+MOST_BYTES = 1 << 16  # of an answer that is looked at
 SECONDS_TO_ANSWER = 2  # for a page that may be there
 NOTE = """<!DOCTYPE html>
 <meta charset="utf-8">
@@ -26,31 +32,39 @@ NOTE = """<!DOCTYPE html>
 """
 
 
-class PageNote:
+class AddressFile:
     """The file that leads to the page of a book, while the page is served."""
 
     def __init__(self, book: str):
-        self.name = os.path.basename(book)
+        self.book = os.path.realpath(book) if book else None
+        self.name = printable(os.path.basename(book))
         self.written = ""  # the address that this process noted
         self.path = notes_folder() / f"page-{digest(os.fsencode(os.path.realpath(book)))[:32]}.html"
 
     def write(self, address: str) -> None:
         """Notes the address of a page that is now served. Raises OSError."""
         self.path.parent.mkdir(mode=0o700, parents=True, exist_ok=True)
-        new = self.path.with_name(f"{self.path.name}.{secrets.token_hex(4)}")
-        descriptor = os.open(new, os.O_WRONLY | os.O_CREAT | os.O_EXCL | os.O_CLOEXEC, 0o600)
-        with open(descriptor, "w", encoding="utf-8") as file:
-            file.write(NOTE.format(address=address, name=escape(self.name)))
-        new.replace(self.path)
+        with replacing(str(self.path), rights=0o600) as file:
+            file.write(NOTE.format(address=address, name=escape(self.name)).encode())
         self.written = address
 
     def address(self) -> Optional[str]:
         """Returns the address of the page of this book that is served already, or None."""
         with suppress(OSError, http.client.HTTPException, UnicodeDecodeError):
             found = ADDRESS.search(self.path.read_text(encoding="utf-8"))
-            if found and is_served(int(found[1]), found[2]):
+            if found and self.is_served(int(found[1]), found[2]):
                 return found[0]
         return None
+
+    def is_served(self, port: int, path: str) -> bool:
+        """Returns whether the page of this book is there. Another program that has the port now gets no token: it has to prove first that
+        it has the book's key."""
+        nonce = secrets.token_hex(16)
+        with suppress(ValueError, TypeError, KeyError):
+            answer = json.loads(answer_of(port, f"/proof/{nonce}"))
+            wanted = proof(book_key(self.book), "server", port, str(answer["run"]), nonce)
+            return hmac.compare_digest(wanted.encode(), str(answer["proof"]).encode()) and bool(answer_of(port, path))
+        return False
 
     def remove(self) -> None:
         """Removes the note, if it is still the one that this process wrote."""
@@ -71,11 +85,12 @@ def notes_folder() -> Path:
     return Path(os.environ.get("XDG_CACHE_HOME") or Path.home() / ".cache") / "abc2midi_live"
 
 
-def is_served(port: int, path: str) -> bool:
-    """Returns whether a page answers there."""
+def answer_of(port: int, path: str) -> bytes:
+    """Returns what is answered at a port; nothing if it is not found there."""
     connection = http.client.HTTPConnection("127.0.0.1", port, timeout=SECONDS_TO_ANSWER)
     try:
         connection.request("GET", path)
-        return connection.getresponse().status == 200
+        answer = connection.getresponse()
+        return answer.read(MOST_BYTES) if answer.status == 200 else b""
     finally:
         connection.close()

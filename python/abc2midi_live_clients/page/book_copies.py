@@ -2,7 +2,7 @@
 
 import os
 
-from .printing import printable
+from ..common.terminal_text import printable
 from .saving import save_book
 
 MOST_BYTES_OF_A_NAME = 255

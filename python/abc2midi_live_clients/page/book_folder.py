@@ -7,6 +7,9 @@ from collections.abc import Iterator
 from pathlib import Path
 from typing import NamedTuple
 
+from ..common.line_places import text_of
+from ..common.regular_file import open_regular
+
 ENDING = ".abc"
 MOST_BOOKS = 2_000  # that are listed
 MOST_BYTES = 32 << 20  # of a book that is searched
@@ -47,10 +50,7 @@ def books_in(folder: Path) -> list[Book]:
 
 def content_of(path: Path) -> bytes:
     """The bytes of a book, without following a link. Raises OSError, also for a book that is too large."""
-    descriptor = os.open(path, os.O_RDONLY | os.O_NOFOLLOW | os.O_NONBLOCK | os.O_CLOEXEC)
-    with open(descriptor, "rb") as file:
-        if not stat.S_ISREG(os.fstat(descriptor).st_mode):
-            raise OSError(errno.EINVAL, "this is no regular file", str(path))
+    with open_regular(str(path), follows=False) as file:
         data = file.read(MOST_BYTES + 1)
     if len(data) > MOST_BYTES:
         raise OSError(errno.EFBIG, "this book is too large to be searched", str(path))
@@ -87,11 +87,3 @@ def lines_with(book: str, data: bytes, wanted: list[str]) -> Iterator[Found]:
         folded = line.casefold()
         if all(word in folded for word in wanted):
             yield Found(book, number, line.strip()[:MOST_SHOWN], title)
-
-
-def text_of(data: bytes) -> str:
-    """The text of a book: as UTF-8, or else as Latin-1."""
-    try:
-        return data.decode()
-    except UnicodeDecodeError:
-        return data.decode("latin-1")

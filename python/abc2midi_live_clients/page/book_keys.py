@@ -1,6 +1,6 @@
 """The keys of books, by which a page and the server of its book know each other again after a loss, without sending what they know.
 
-Each book has a key, which the page gets with its files. `server.js` makes and checks the same proof; the tests in a browser compare
+Each book has a key, which the page gets with its files. `server_host.js` makes and checks the same proof; the tests in a browser compare
 them. `proof` is a keyed digest of the port, the server's run and a number that the page drew: whoever took the port cannot make it,
 and cannot get it from a server at another port."""
 

@@ -6,19 +6,20 @@ from typing import NamedTuple
 
 from abc2midi_live.edits import Edit, common_front, edits, merge_edits
 
-from .places import LinePlaces, text_of
+from abc2midi_live.lines import MARK
 
-MARK = b"\xef\xbb\xbf"
+from ..common.line_places import LinePlaces, text_of, windows_1252
+
 MOST_EDITS = 20  # that one writing of another program becomes
-# Halves of pairs show these bytes, since no text has halves. places.py, score_text.py and the page's blob.js know them.
+# Halves of pairs show these bytes, since no text has halves. line_places.py, readable_lines.py and the page's book_blob.js know them.
 CONTROLS = {byte: 0xDC00 + byte for byte in range(32) if byte not in b"\t\n"}
 CHARACTERS = {half: byte for byte, half in CONTROLS.items()} | {0xDC00 + byte: byte for byte in range(128, 256)}
 
 
 class Letters(NamedTuple):
-    """How many lines have letters beyond ASCII in Latin-1, and how many in UTF-8."""
+    """How many lines have letters beyond ASCII in Windows-1252, and how many in UTF-8."""
 
-    latin1: int = 0
+    windows: int = 0
     utf8: int = 0
 
     @classmethod
@@ -29,14 +30,14 @@ class Letters(NamedTuple):
 
     def name(self) -> str:
         """The name of the encoding that the lines have."""
-        if not self.latin1:
+        if not self.windows:
             return "utf-8"
-        return "both" if self.utf8 else "latin-1"
+        return "both" if self.utf8 else "windows-1252"
 
 
 class Text(NamedTuple):
     """The text of a book as bytes: a mark at its start, its lines, and whether they end in carriage returns. The last line is
-    empty if the text ends with a line feed. A line that is not UTF-8 is read as Latin-1."""
+    empty if the text ends with a line feed. A line that is not UTF-8 is read as Windows-1252, which has all letters of Latin-1."""
 
     mark: bytes
     lines: list[bytes]
@@ -72,16 +73,16 @@ class Text(NamedTuple):
 
     def places(self, line: bytes) -> LinePlaces:
         """The places of a line as windows see it."""
-        return LinePlaces(self.shown(line), is_latin1=not is_utf8(line))
+        return LinePlaces(self.shown(line), is_utf8(line))
 
     def edit_of(self, start: int, stop: int, lines: Sequence[str]) -> Edit:
-        """The edit that makes some lines those that a window shows. One that was there keeps its bytes. New ones are Latin-1 if
-        the book is, or if one of the replaced lines is."""
+        """The edit that makes some lines those that a window shows. One that was there keeps its bytes. New ones are Windows-1252
+        if the book is, or if one of the replaced lines is."""
         old = self.lines[start:stop]
         shown = [self.shown(line) for line in old]
         known = dict(zip(shown, map(self.content, old)))
-        is_latin1 = self.letters.name() == "latin-1" or not all(map(is_utf8, old))
-        put = [known[line] if line in known else bytes_of(line, is_latin1) for line in lines]
+        is_windows = self.letters.name() == "windows-1252" or not all(map(is_utf8, old))
+        put = [known[line] if line in known else bytes_of(line, is_windows) for line in lines]
         front, back = common_front(shown, lines), common_front(shown[::-1], lines[::-1])
         put[:front] = map(self.content, old[:front])
         put[len(put) - back :] = map(self.content, old[len(old) - back :])
@@ -90,7 +91,7 @@ class Text(NamedTuple):
     def edited(self, edit: Edit) -> "Text":
         """The text after an edit."""
         gone, come = Letters.of(self.lines[edit.start : edit.stop]), Letters.of(edit.lines)
-        letters = Letters(self.letters.latin1 - gone.latin1 + come.latin1, self.letters.utf8 - gone.utf8 + come.utf8)
+        letters = Letters(self.letters.windows - gone.windows + come.windows, self.letters.utf8 - gone.utf8 + come.utf8)
         lines = self.lines.copy()
         lines[edit.start : edit.stop] = edit.lines
         return self._replace(lines=lines, letters=letters)
@@ -109,15 +110,10 @@ def is_utf8(line: bytes) -> bool:
     return False
 
 
-def bytes_of(text: str, is_latin1: bool = False) -> bytes:
-    """The bytes of a line that a window shows: in UTF-8; or in Latin-1 if they are to be, and are read as the same letters."""
+def bytes_of(text: str, is_windows: bool = False) -> bytes:
+    """The bytes of a line that a window shows: in UTF-8; or in Windows-1252 if they are to be, and are read as the same letters."""
     plain = text.translate(CHARACTERS)
-    if is_latin1:
-        with suppress(UnicodeEncodeError):
-            data = plain.encode("latin-1")
-            if text_of(data) == plain:
-                return data
-    return plain.encode("utf-8", "replace")
+    return is_windows and windows_1252(plain) or plain.encode("utf-8", "replace")
 
 
 def edits_of(old: Text, new: Text) -> list[Edit]:

@@ -14,27 +14,18 @@ from typing import Any
 
 from abc2midi_live import LibraryMissing
 
-from .asked import Refused
-from .book_keys import book_key, proof
-from .faults import sentence_pairs
+from ..common.options import add_version_option
+from ..common.signals import when_the_parent_ends, when_told_to_end
+from ..common.terminal_text import printable
+from .address_file import AddressFile
 from .folder_server import FolderServer
-from .guarded_server import GuardedServer
-from .hint_process import HintProcess
-from .opening_page import PageNote
-from .own_process import ENDED
-from .page_requests import Request
-from .printing import printable
-from .program import add_version_option
-from .score_pdf import PdfMaker
-from .scorer import Scorer
-from .served_files import ServedFiles
+from .hint_keeper import HintKeeper
+from .refused import Refused
+from .server import Server, interrupted
 from .shared_book import SharedBook
-from .signals import when_the_parent_ends, when_told_to_end
-from .sound_font import BadFont, find_font
+from .sound_font import BadFont
 
 SECONDS_BETWEEN_LOOKS = 0.5  # at the book on disk
-SECONDS_OF_REST = 0.3  # after an edit, before hints are looked for
-SECONDS_ALONE = 60  # without a window, after which a page that was opened on a desktop ends
 PERHAPS = ", perhaps by a page that you started before"
 FIRST_PORT, PORTS, TRIES, MOST_PORT = 20_000, 12_000, 20, 65_535
 
@@ -64,48 +55,6 @@ def arguments() -> argparse.Namespace:
     parser.add_argument("--library", metavar="FILE", help="compile by this C library instead of the installed or built one")
     add_version_option(parser)
     return parser.parse_args()
-
-
-interrupted = threading.Event()
-
-
-class Server(GuardedServer):
-    """The server of one book."""
-
-    def __init__(self, port: int, book: SharedBook, words: argparse.Namespace):
-        self.scorer = Scorer()  # first: a server whose port is taken is closed at once
-        super().__init__(port, Request)
-        self.pdfs = PdfMaker()
-        self.book = book
-        self.ends_alone: bool = words.open
-        self.is_plain: bool = words.plain_sounds
-        self.font = None if words.plain_sounds else find_font(words.sound_font)
-        self.seen = time.monotonic()  # when there was a window last, or text that is not saved
-        self.key = book_key(book.path)
-        self.sentences = sentence_pairs()
-        self.files = ServedFiles(self.key)
-
-    def proof(self, who: str, nonce: str) -> str:
-        """The proof that the server, or the page, has the book's key."""
-        return proof(self.key, who, self.server_port, self.book.run, nonce)
-
-    def server_close(self) -> None:
-        """Ends the server, and what draws scores for it."""
-        super().server_close()
-        self.scorer.close()
-
-    def is_left(self) -> bool:
-        """Returns whether a page that was opened on a desktop had no window for a while, with all of its text saved."""
-        if not self.ends_alone or self.book.windows.count() or self.book.now()["unsaved"]:
-            self.seen = time.monotonic()
-        return time.monotonic() - self.seen > SECONDS_ALONE
-
-    def service_actions(self) -> None:
-        """Ends the server if the client is to end, and the connections of strangers that take too long."""
-        if interrupted.is_set() or self.is_left():
-            raise KeyboardInterrupt
-        super().service_actions()
-        self.book.remind()
 
 
 def serving(words: argparse.Namespace, book: SharedBook) -> Server:
@@ -146,13 +95,13 @@ def tell(sentence: str) -> None:
     print(f"page: {printable(sentence)}", file=sys.stderr, flush=True)
 
 
-def open_page(server: Server, note: PageNote) -> None:
+def open_page(server: Server, note: AddressFile) -> None:
     """Opens the page in the browser of the desktop. A command for a browser may wait until it ends, so the page does not wait for it."""
     note.write(f"http://127.0.0.1:{server.server_port}/{server.token}/")
     threading.Thread(target=open_window, args=(note,), daemon=True).start()
 
 
-def open_window(note: PageNote) -> int:
+def open_window(note: AddressFile) -> int:
     """Opens a window of a page in the browser of the desktop, and returns the exit status."""
     if note.open():
         return 0
@@ -190,44 +139,6 @@ def keep_looking(book: SharedBook) -> None:
         time.sleep(SECONDS_BETWEEN_LOOKS)
 
 
-class HintKeeper:
-    """Finds the hints on each text that is left alone for a moment."""
-
-    def __init__(self, book: SharedBook):
-        self.book = book
-        self.process = HintProcess(self.book.library)
-        self.is_closed = False
-
-    def keep(self) -> None:
-        """Looks for hints again and again. A version on which the process ended twice in a row has none."""
-        known = failed = -1  # the version whose hints are known, and the one on which the process ended last
-        while not self.is_closed:
-            version, question = self.book.question(known, SECONDS_OF_REST)
-            try:
-                hints = self.process.rows(question)
-            except ENDED:
-                self.restart()
-                if version != failed:
-                    failed = version
-                    continue
-                hints = []
-            self.book.know_hints(version, hints)
-            known = version
-
-    def restart(self) -> None:
-        """Starts another process, a moment after the last one ended. If that fails, the next question tries again."""
-        self.process.close()
-        time.sleep(SECONDS_OF_REST)
-        if not self.is_closed:
-            with suppress(OSError):
-                self.process = HintProcess(self.book.library)
-
-    def close(self) -> None:
-        """Ends the process."""
-        self.is_closed = True
-        self.process.close()
-
-
 def interrupt(*_: Any) -> None:
     """Ends the client as Ctrl-C does, but between two requests: what is raised while Python lets go of a value is lost."""
     interrupted.set()
@@ -238,7 +149,7 @@ def main() -> int:
     words = arguments()
     when_told_to_end(interrupt)
     book = keeper = None
-    note = PageNote(words.book or "")
+    note = AddressFile(words.book or "")
     try:
         if words.book and os.path.isdir(words.book):
             return serve_folder(words)

@@ -1,6 +1,6 @@
 """What the program finds in a text, as rows that windows keep and move with their lines.
 
-The windows do so by `page_files/rows.js`, which mirrors `moved` and `difference`: tests/clients/test_rows.py compares the two."""
+The windows do so by `page/link/finding_rows.js`, which mirrors `moved` and `difference`: tests/clients/page/test_finding_rows.py compares the two."""
 
 from bisect import bisect_left
 from collections.abc import Sequence
@@ -10,14 +10,14 @@ from typing import Any, NamedTuple
 from abc2midi_live import Fault
 from abc2midi_live.edits import common_front
 
-from .program import Tune, files_of, lines_too_long
-from .texts import Text
+from ..common.json_object import Json
+from ..common.session_book import Tune, files_of, lines_too_long
+from .book_text import Text
 
 NOTHING_FOUND = {"faults": {"at": 0, "out": 0, "put": []}, "tunes": {"at": 0, "out": 0, "put": []}, "written": [], "removed": []}
 
 FaultRow = tuple[int, int, int, str]  # line from 0, column, the column after it, name
 TuneRow = tuple[int, int, str, bool]  # line from 0, number, title, whether the number's file is this tune's
-Json = dict[str, Any]
 
 
 class Rows(NamedTuple):

@@ -5,19 +5,22 @@ import sys
 import threading
 import time
 import urllib.parse
+from collections import deque
 from contextlib import suppress
 from html import escape
 from pathlib import Path
 from typing import Optional
 
 import abc2midi_live
+import abc2midi_live_clients
 
-from .asked import Refused
 from .book_folder import Book, Found, books_in, search
 from .guarded_server import GuardedServer
-from .page_requests import Request
+from .refused import Refused
+from .request_handler import Request
 
 MOST_OPEN = 20  # books at the same time
+MOST_PRINTED, MOST_OF_A_LINE = 200, 2_000  # lines of a server, characters
 SECONDS_TO_BEGIN, SECONDS_TO_END = 60, 5  # of the server of a book
 KIND = "text/html; charset=utf-8"
 POLICY = "default-src 'none'; style-src 'self'; img-src data:; form-action 'self'; base-uri 'none'; frame-ancestors 'none'"
@@ -44,6 +47,28 @@ PAGE = """<!doctype html>
 """
 
 
+class PrintedLines:
+    """The last lines that a process prints on standard error. They are read as they come: a full pipe would hold it up."""
+
+    def __init__(self, process: "subprocess.Popen[str]"):
+        assert process.stderr
+        self.stream, process.stderr = process.stderr, None
+        self.lines: deque[str] = deque(maxlen=MOST_PRINTED)
+        self.reader = threading.Thread(target=self.read, daemon=True)
+        self.reader.start()
+
+    def read(self) -> None:
+        """Reads till the process ends."""
+        with self.stream:
+            for line in iter(lambda: self.stream.readline(MOST_OF_A_LINE), ""):
+                self.lines.append(line)
+
+    def text(self) -> str:
+        """The lines, after the end of the process."""
+        self.reader.join(SECONDS_TO_END)
+        return "".join(self.lines)
+
+
 class OpenBooks:
     """The servers of books, by the names of the books."""
 
@@ -51,6 +76,7 @@ class OpenBooks:
         self.folder, self.options = folder, options
         self.lock = threading.Lock()
         self.servers: dict[str, subprocess.Popen[str]] = {}
+        self.printed: dict[str, PrintedLines] = {}
         self.addresses: dict[str, str] = {}
 
     def address(self, name: str) -> str:
@@ -66,21 +92,22 @@ class OpenBooks:
 
     def begun(self, name: str) -> "tuple[subprocess.Popen[str], str]":
         """Starts the server of a book, which ends with this process, and returns it with its address."""
-        folders = [str(Path(file).resolve().parent.parent) for file in (abc2midi_live.__file__, __file__)]
-        start = f"import sys; sys.path[:0] = {folders!r}; from abc2midi_live_clients.page_server import main_of_a_folder; sys.exit(main_of_a_folder())"
+        folders = [str(Path(file).resolve().parent.parent) for file in (abc2midi_live.__file__, abc2midi_live_clients.__file__)]
+        start = f"import sys; sys.path[:0] = {folders!r}; from abc2midi_live_clients.page.command import main_of_a_folder; sys.exit(main_of_a_folder())"
         words = [sys.executable, "-I", "-B", "-c", start, *self.options, "--", str(self.folder / name)]
         try:
-            server = subprocess.Popen(words, stdin=subprocess.PIPE, stdout=subprocess.PIPE, stderr=subprocess.PIPE, text=True)
+            server = subprocess.Popen(words, stdin=subprocess.PIPE, stdout=subprocess.PIPE, stderr=subprocess.PIPE, text=True, errors="replace")
         except OSError as error:
             raise Refused(503, f"{name} cannot be opened: {error.strerror}.") from error
+        printed = self.printed[name] = PrintedLines(server)
         limit = threading.Timer(SECONDS_TO_BEGIN, server.kill)
         limit.start()
         assert server.stdout
         address = server.stdout.readline().strip()
         limit.cancel()
         if not address:
-            _, why = server.communicate()
-            raise Refused(503, f"{name} cannot be opened: {(why.strip().splitlines() or ['its server ended'])[-1]}")
+            server.communicate()
+            raise Refused(503, f"{name} cannot be opened: {(printed.text().strip().splitlines() or ['its server ended'])[-1]}")
         return server, address
 
     def close(self) -> None:
@@ -88,14 +115,14 @@ class OpenBooks:
         with self.lock:
             for server in self.servers.values():
                 server.terminate()
-            for server in self.servers.values():
+            for name, server in self.servers.items():
                 try:
-                    words = server.communicate(timeout=SECONDS_TO_END)[1]
+                    server.communicate(timeout=SECONDS_TO_END)
                 except subprocess.TimeoutExpired:
                     server.kill()
-                    words = server.communicate()[1]
+                    server.communicate()
                 with suppress(OSError):
-                    sys.stderr.write(words)
+                    sys.stderr.write(self.printed[name].text())
 
 
 class FolderRequest(Request):

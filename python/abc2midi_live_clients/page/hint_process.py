@@ -6,13 +6,13 @@ from typing import NamedTuple, Optional
 from abc2midi_live import Fault
 from abc2midi_live.lines import without_empty_end
 
-from .hints import Finder
-from .hints.reader import NO_LINE, reader_here
+from ..common.faults import end_of
+from ..common.session_book import MOST_ENDS, Tune
+from ..hints import Finder
+from ..hints.reader import NO_LINE, reader_here
+from .book_text import Text
+from .finding_rows import FaultRow, TuneRow
 from .own_process import OwnProcess, answer_all
-from .places import end_of
-from .program import MOST_ENDS, Tune
-from .rows import FaultRow, TuneRow
-from .texts import Text
 
 NICENESS = 19
 HintRow = tuple[int, int, int, str, str]  # line from 0, begin and end there in UTF-16, name, sentence
@@ -31,7 +31,7 @@ class HintProcess(OwnProcess):
     """The process that finds hints, by the library at a path or the one that is found."""
 
     def __init__(self, library: Optional[str] = None) -> None:
-        super().__init__("hint_process", library)
+        super().__init__("page.hint_process", library)
 
     def rows(self, question: Question) -> list[HintRow]:
         """The hints on a text as windows see them, in order. Raises one of `ENDED` if the process ended."""

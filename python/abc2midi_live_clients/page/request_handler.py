@@ -13,23 +13,25 @@ from contextlib import suppress
 from http.server import BaseHTTPRequestHandler
 from typing import TYPE_CHECKING, Any, Optional, Union
 
-from .asked import WINDOW, Refused
-from .rows import Json
+from ..common.json_object import Json
+from .refused import Refused
 from .served_files import CACHED_FOR_A_YEAR
 from .web_socket import BadMessage, WebSocket, answering_headers, asks_for_socket, version
+from .window_requests import WINDOW
 
 if TYPE_CHECKING:
-    from .page_server import Server
+    from .server import Server
 
 MOST_BYTES = 1 << 25  # of an edit
 MOST_OF_A_MESSAGE = 1 << 17  # bytes; what is longer comes as a request
-SECONDS_OF_SILENCE = 3  # after which a window hears that the server is there; server.js waits longer
+SECONDS_OF_SILENCE = 3  # after which a window hears that the server is there; server_host.js waits longer
 MIDI_NAME = r"midi/([0-9]{1,9})"
 STORED = {"Content-Disposition": "attachment"}  # a name here would go before that of the link in the page
 SAFE = {
     "Cache-Control": "no-store",
     "Content-Security-Policy": "default-src 'none'; script-src 'self'; style-src 'self'; img-src data:; "
     "connect-src 'self'; base-uri 'none'; form-action 'none'; frame-ancestors 'none'",
+    "Cross-Origin-Opener-Policy": "same-origin",
     "Cross-Origin-Resource-Policy": "same-origin",
     "Referrer-Policy": "no-referrer",
     "X-Content-Type-Options": "nosniff",
@@ -139,7 +141,7 @@ class Request(BaseHTTPRequestHandler):
         changes = re.fullmatch(r"changes/([0-9]{1,15})", name)
         news = re.fullmatch(rf"(events|news)/([0-9]{{1,15}})/({WINDOW.pattern})", name, re.ASCII)
         book = self.server.book
-        answers = {"saved": book.saved_lines, "disk": book.lines_on_disk, "state": book.now, "hints": book.hints_now}
+        answers = {"saved": book.saved_lines, "disk": book.lines_on_disk, "state": book.now, "hints": book.hints_now, "pdf": self.server.pdfs.needs}
         if name in self.server.files.by_name:
             self.send(*self.server.files.by_name[name])
         elif name in answers:

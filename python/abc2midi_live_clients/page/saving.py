@@ -1,28 +1,17 @@
 """Saving a book without loss: a new file replaces the old one in one step, or the save is refused with the reason."""
 
-import ctypes
 import errno
 import hashlib
 import os
 import stat
 import sys
-import tempfile
-from contextlib import suppress
-from typing import NamedTuple, Optional
+from contextlib import nullcontext, suppress
+from typing import BinaryIO, NamedTuple, Optional
 
 from abc2midi_live.reading import bytes_of_book
 
-READ = os.O_RDONLY | os.O_NONBLOCK | os.O_NOCTTY | os.O_CLOEXEC | os.O_NOFOLLOW  # opening a book never waits
-NOT_REGULAR = "it is not a regular file"
-LIBRARY = ctypes.CDLL(None, use_errno=True)
-HERE, RENAME_EXCHANGE = -100, 2  # Linux: names are relative to the present folder; two names are exchanged
-
-
-class NotRegular(OSError):
-    """Something else than a regular file has the book's name."""
-
-    def __init__(self, path: str):
-        super().__init__(errno.EINVAL, NOT_REGULAR, path)
+from ..common.regular_file import open_regular, refuse_others
+from ..common.replaced_file import exchange, give_free_name, name_beside, new_file, replace, sync_names
 
 
 class NotSaved(Exception):
@@ -63,52 +52,42 @@ def stamp_of(path: str) -> Optional[Stamp]:
         found = os.lstat(path)
     except FileNotFoundError:
         return None
-    if not stat.S_ISREG(found.st_mode):
-        raise NotRegular(path)
+    refuse_others(path, found)
     return Stamp(found.st_dev, found.st_ino, found.st_size, found.st_mtime_ns, found.st_ctime_ns)
 
 
-def open_book(path: str) -> Optional[int]:
-    """A descriptor of a book, None if there is none. Nothing but a regular file is opened: opening a device may have effects."""
-    if stamp_of(path) is None:
-        return None
+def open_book(path: str) -> Optional[BinaryIO]:
+    """Opens a book for reading; None if there is none."""
     try:
-        descriptor = os.open(path, READ)
+        return open_regular(path, follows=False)
     except FileNotFoundError:
         return None
-    if not stat.S_ISREG(os.fstat(descriptor).st_mode):
-        os.close(descriptor)
-        raise NotRegular(path)
-    return descriptor
 
 
 def read_book(path: str) -> Optional[bytes]:
     """The bytes of a book, None if there is none."""
-    descriptor = open_book(path)
-    if descriptor is None:
+    file = open_book(path)
+    if file is None:
         return None
-    with os.fdopen(descriptor, "rb") as file:
+    with file:
         return bytes_of_book(file)
 
 
 def save_book(path: str, data: bytes, expected: Optional[str]) -> None:
     """Replaces a book whose content has the expected digest; makes one if None is expected. The new file has the owner, the
     group, the rights and the extended attributes of the old one. Whatever is raised, the old file is as it was."""
-    old = open_book(path)
-    try:
+    with open_book(path) or nullcontext() as file:
+        old = None if file is None else file.fileno()
         if old is not None:
             refuse_loss(path, os.fstat(old))
         compare(path, expected)
-        new = write_beside(os.path.dirname(path), data, old)
+        new = write_beside(path, data, old)
         try:
             put_in_place(new, path, expected)
         finally:
             with suppress(OSError):
                 os.unlink(new)
-    finally:
-        if old is not None:
-            os.close(old)
-    keep_name(os.path.dirname(path))
+    sync_names(os.path.dirname(path))
 
 
 def refuse_loss(path: str, old: os.stat_result) -> None:
@@ -127,25 +106,19 @@ def compare(path: str, expected: Optional[str]) -> None:
         raise BookChanged(present)
 
 
-def write_beside(folder: str, data: bytes, old: Optional[int]) -> str:
-    """The name of a new file with these bytes, on the disk, with everything else of the old one. The name is short: the name of a
-    book may be as long as names can be."""
-    descriptor, name = tempfile.mkstemp(prefix=".abc2midi_live.", dir=folder)
-    try:
-        with os.fdopen(descriptor, "wb") as file:
-            file.write(data)
-            file.flush()
-            if old is None:
-                os.fchmod(descriptor, 0o666 & ~UMASK)
-            else:
-                keep_owner(old, descriptor)
-                keep_attributes(old, descriptor)
-                os.fchmod(descriptor, stat.S_IMODE(os.fstat(old).st_mode))
-            os.fsync(descriptor)
-    except BaseException:
-        with suppress(OSError):
-            os.unlink(name)
-        raise
+def write_beside(path: str, data: bytes, old: Optional[int]) -> str:
+    """The name of a new file with these bytes, on the disk, with everything else of the old one. Nobody else may read it before that."""
+    name = name_beside(path)
+    with new_file(name, 0o600, syncs=True) as file:
+        file.write(data)
+        file.flush()
+        new = file.fileno()
+        if old is None:
+            os.fchmod(new, 0o666 & ~UMASK)
+        else:
+            keep_owner(old, new)
+            keep_attributes(old, new)
+            os.fchmod(new, stat.S_IMODE(os.fstat(old).st_mode))
     return name
 
 
@@ -155,18 +128,24 @@ def put_in_place(new: str, path: str, expected: Optional[str]) -> None:
     some microseconds between the last look and the replacement remain, too."""
     if expected is None:
         try:
-            os.link(new, path)
-            return
+            if give_free_name(new, path):
+                return
         except FileExistsError:
             raise BookChanged(digest_of(read_book(path))) from None
-        except OSError:  # a file system without hard links
-            pass
     compare(path, expected)
     own = stamp_of(new)
-    if expected is None or not exchange(new, path):
-        os.replace(new, path)
+    try:
+        is_exchanged = expected is not None and exchange(new, path)
+    except FileNotFoundError:
+        raise BookChanged(None) from None
+    if not is_exchanged:
+        replace(new, path)
         return
-    present = digest_of(read_book(new))
+    try:
+        present = digest_of(read_book(new))
+    except BaseException:  # nobody knows what the file is that was replaced
+        take_back(new, path, own)
+        raise
     if present != expected:
         take_back(new, path, own)
         raise BookChanged(present)
@@ -176,24 +155,11 @@ def take_back(new: str, path: str, own: Optional[Stamp]) -> None:
     """Exchanges the names again. If yet another program replaced the book meanwhile, its file keeps the name."""
     try:
         exchange(new, path)
-    except BookChanged:  # it was removed meanwhile
-        os.replace(new, path)
+    except FileNotFoundError:  # it was removed meanwhile
+        replace(new, path)
     now = stamp_of(new)
     if own and now and now.inode != own.inode:
         exchange(new, path)
-
-
-def exchange(one: str, other: str) -> bool:
-    """Exchanges the names of two files in one step; False if the system cannot do that."""
-    call = getattr(LIBRARY, "renameat2", None)
-    if call is None:
-        return False
-    if call(HERE, os.fsencode(one), HERE, os.fsencode(other), RENAME_EXCHANGE) == 0:
-        return True
-    number = ctypes.get_errno()
-    if number in (errno.EINVAL, errno.ENOSYS):
-        return False
-    raise BookChanged(None) if number == errno.ENOENT else OSError(number, os.strerror(number))
 
 
 def keep_owner(old: int, new: int) -> None:
@@ -232,16 +198,6 @@ def attributes(descriptor: int) -> dict[str, bytes]:
         if error.errno != errno.ENOTSUP:
             raise
         return {}
-
-
-def keep_name(folder: str) -> None:
-    """Brings the names of a folder to the disk, if its file system can do that."""
-    with suppress(OSError):
-        descriptor = os.open(folder, os.O_RDONLY | os.O_DIRECTORY | os.O_CLOEXEC)
-        try:
-            os.fsync(descriptor)
-        finally:
-            os.close(descriptor)
 
 
 def umask() -> int:

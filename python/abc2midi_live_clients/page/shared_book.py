@@ -4,14 +4,15 @@ import os
 import threading
 from typing import Optional
 
-from .asked import Refused, window_of
-from .book_file import BookFile
-from .copies import BadName, copy_path, save_copy
-from .printing import printable
-from .rows import Json
+from ..common.book_file import BookFile
+from ..common.json_object import Json
+from ..common.terminal_text import printable
+from .book_copies import BadName, copy_path, save_copy
+from .book_text import Text
+from .refused import Refused
 from .saving import BookChanged, NotSaved, digest, digest_of, read_book, save_book
 from .shared_text import Disk, SharedText, shown_lines
-from .texts import Text
+from .window_requests import window_of
 
 SECONDS_OF_PATIENCE = 3  # with an edit or a save, before a look at the file
 GONE = "the book is not on the disk any more"

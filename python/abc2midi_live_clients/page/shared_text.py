@@ -9,17 +9,18 @@ from typing import NamedTuple, Optional
 from abc2midi_live import Report
 from abc2midi_live.lines import without_empty_end
 
-from .asked import Refused, edits_in, is_count, lines_in, sight_of, window_of
+from ..common.json_object import Json
+from ..common.session_book import SessionBook
+from .book_text import Text, edits_of
+from .finding_rows import NOTHING_FOUND, Rows, difference, moved, shown_rows
 from .hint_process import HintRow, Question
 from .midi_names import zip_of
 from .own_session import OwnSession, hand_over
-from .program import SessionBook
-from .recent_changes import RecentChanges
-from .rows import NOTHING_FOUND, Json, Rows, difference, moved, shown_rows
+from .refused import Refused
 from .saving import digest_of
-from .texts import Text, edits_of
-from .views import view_of
-from .windows import Windows
+from .tokens_and_plays import view_of
+from .window_requests import edits_in, is_count, lines_in, sight_of, window_of
+from .windows import RecentChanges, Windows
 
 SECONDS_FOR_ANSWERS = 0.5  # in which a window gets the answers to its edits, before it hears of them once more
 OF_AN_ANSWER = ("version", "moment", "unsaved")  # what the answer to an edit has of the state
@@ -270,6 +271,14 @@ class SharedText:
     ) -> list[Json]:
         """Lets the windows see a text that edits made of the present one, the last ones of the text first. `has` says which edits of
         windows the text has in it since then; without it the author is this run of the server."""
+        try:
+            return self.carry_out(made, version, window, since, has or {})
+        except BaseException:
+            self.session.forget()  # it has the edits, and the windows do not
+            raise
+
+    def carry_out(self, made: list[Json], version: Version, window: Optional[str], since: float, has: dict[str, int]) -> list[Json]:
+        """Lets the windows see a text, or raises an exception and changes nothing."""
         faults, tunes = self.rows
         changes: list[Json] = []
         for edit in made:
@@ -284,20 +293,21 @@ class SharedText:
                 "removed": list(version.report.removed),
             }
         with self.moved:
-            self.text, self.rows = version.text, version.rows
-            self.disk = version.disk or self.disk  # a save may have changed it since the edit began
-            self.is_unsaved = are_others(self.text.lines, self.disk.text.lines, made)
+            disk = version.disk or self.disk  # a save may have changed it since the edit began
+            is_unsaved = are_others(version.text.lines, disk.text.lines, made)
             took = round(1000 * (time.perf_counter() - since), 1)
             writing = f"{self.run} {self.version + 1}"
-            for change in changes:
-                self.version += 1
-                self.moment += 1
-                self.hints = moved(self.hints, change["edit"])
-                new = has or {self.run: self.version}
-                self.has |= {author: max(number, self.has.get(author, 0)) for author, number in new.items()}
-                change |= {"version": self.version, "moment": self.moment, "has": new, "writing": writing}
-                change |= {"unsaved": self.is_unsaved, "milliseconds": took}
+            hints, present = self.hints, dict(self.has)
+            for count, change in enumerate(changes, 1):
+                hints = moved(hints, change["edit"])
+                new = has or {self.run: self.version + count}
+                present |= {author: max(number, present.get(author, 0)) for author, number in new.items()}
+                change |= {"version": self.version + count, "moment": self.moment + count, "has": new, "writing": writing}
+                change |= {"unsaved": is_unsaved, "milliseconds": took}
             self.changes.extend(changes)
+            self.text, self.rows, self.disk, self.is_unsaved = version.text, version.rows, disk, is_unsaved
+            self.hints, self.has = hints, present
+            self.version, self.moment = self.version + len(changes), self.moment + len(changes)
             self.moved.notify_all()
         return changes
 

@@ -8,7 +8,7 @@ import struct
 from collections.abc import Iterator
 from typing import NamedTuple, Optional
 
-from .rows import Json
+from ..common.json_object import Json
 
 FONTS = [f"/usr/share/sounds/sf2/{name}.sf2" for name in ("default-GM", "TimGM6mb", "FluidR3_GM")]
 MOST_SAMPLES = 1 << 23  # that one answer has

@@ -1,16 +1,15 @@
-"""What a window sees of a book: the tokens of its lines and the play of its tune, as rows of numbers for `page_files/seen.js`."""
+"""What a window sees of a book: the tokens of its lines and the play of its tune, as rows of numbers for `page/link/tokens_and_plays.js`."""
 
 from bisect import bisect_right
 from itertools import accumulate
-from typing import Any, NamedTuple, Optional
+from typing import NamedTuple, Optional
 
 from abc2midi_live import PlayTooLong
 from abc2midi_live.records import TokenColumns
 
-from .program import SessionBook
-from .texts import Text
-
-Json = dict[str, Any]
+from ..common.json_object import Json
+from ..common.session_book import SessionBook
+from .book_text import Text
 
 MOST_LINES = 1_000  # of a window
 MOST_TOKENS = 50_000  # of its lines, after which no line has tokens

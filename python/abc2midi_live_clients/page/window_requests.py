@@ -1,21 +1,13 @@
-"""What windows ask of a book: how it is read, and how it is refused."""
+"""What windows ask of a book, as it is read."""
 
 import re
-from typing import Any, Optional
+from typing import Optional
 
-from .rows import Json
-from .views import Sight
+from ..common.json_object import Json
+from .refused import Refused
+from .tokens_and_plays import Sight
 
 WINDOW = re.compile(r"[\w.-]{1,64}", re.ASCII)  # the name of a window
-
-
-class Refused(Exception):
-    """What a window may not do: an HTTP status, a sentence, and what else the answer has."""
-
-    def __init__(self, status: int, sentence: str, **more: Any):
-        super().__init__(sentence)
-        self.status = status
-        self.answer: Json = {"error": sentence, **more}
 
 
 def lines_in(asked: Json, count: int) -> tuple[int, int, list[str]]:

@@ -12,16 +12,17 @@ from typing import Any
 
 from abc2midi_live import ProgramMissing
 
+from ..common.book_file import BookFile
+from ..common.faults import sentences
+from ..common.options import add_common_options, find_program
+from ..common.player import Player, command
+from ..common.session_book import LiveBook
+from ..common.signals import when_told_to_end
+from ..common.terminal_text import printable
+from ..hints import Finder
 from .book_events import BookEvents
-from .book_file import BookFile
-from .faults import sentences
-from .hints import Finder
 from .midi_folder import FolderTaken, MidiFolder
-from .players import Player, command
-from .printing import printable
-from .program import LiveBook, add_common_options, find_program
 from .reports import JsonReport, Report, TextReport
-from .signals import when_told_to_end
 from .watched_book import FAILED, WatchedBook, prepare
 
 SECONDS_BETWEEN_LOOKS = 0.5

@@ -5,7 +5,7 @@ from typing import Generic, TypeVar, Union
 
 from abc2midi_live import Fault
 
-from .hints import Hint
+from ..hints import Hint
 
 Remark = TypeVar("Remark", Fault, Hint)
 Item = TypeVar("Item")

@@ -1,12 +1,14 @@
 """The folder of a book's MIDI files: its lock, and files that should or should not be there."""
 
 import errno
-import fcntl
 import os
 import re
 from collections.abc import Collection
 from contextlib import suppress
 from typing import Optional
+
+from ..common.lock_file import FileLocked, lock_file, open_lock, write_owner
+from ..common.replaced_file import replacing
 
 LOCK = ".watch.lock"
 OWN_NAME = re.compile(r"(0|[1-9][0-9]{0,8})\.mid")
@@ -41,14 +43,16 @@ class MidiFolder:
             descriptor = open_lock(self.inside(LOCK))
             try:
                 lock_file(descriptor)
-            except (OSError, FolderTaken):
+            except FileLocked as locked:
+                os.close(descriptor)
+                why = f"another watcher keeps this folder current{locked.owner}; end it, or name another folder by --dir"
+                raise FolderTaken(why) from None
+            except OSError:
                 os.close(descriptor)
                 raise
             if self.is_at_its_place(descriptor):
                 self.lock = descriptor
-                with suppress(OSError):  # another user made the file
-                    os.ftruncate(descriptor, 0)
-                    os.write(descriptor, b"%d\n" % os.getpid())
+                write_owner(descriptor)
             else:  # the watcher that had it has just ended, and removed it
                 os.close(descriptor)
 
@@ -99,35 +103,9 @@ class MidiFolder:
         new = self.inside(f".{number}.mid.new")
         with suppress(FileNotFoundError):
             os.unlink(new)
-        try:
-            with open(os.open(new, os.O_WRONLY | os.O_CREAT | os.O_EXCL | os.O_CLOEXEC, 0o666), "wb") as file:
-                file.write(data)
-            os.replace(new, self.inside(f"{number}.mid"))
-        except OSError:
-            with suppress(OSError):
-                os.unlink(new)
-            raise
+        with replacing(self.inside(f"{number}.mid"), new) as file:
+            file.write(data)
 
     def inside(self, name: str) -> str:
         """The path of a name in the folder."""
         return os.path.join(self.path, name)
-
-
-def open_lock(path: str) -> int:
-    """Opens a lock file. One that another user made may be read only, and can be locked too."""
-    try:
-        return os.open(path, os.O_RDWR | os.O_CREAT | os.O_NOFOLLOW | os.O_CLOEXEC, 0o666)
-    except PermissionError:
-        with suppress(FileNotFoundError):  # then the folder is the reason
-            return os.open(path, os.O_RDONLY | os.O_NOFOLLOW | os.O_CLOEXEC)
-        raise
-
-
-def lock_file(descriptor: int) -> None:
-    """Locks a file that is open. Raises FolderTaken if another watcher has done so."""
-    try:
-        fcntl.flock(descriptor, fcntl.LOCK_EX | fcntl.LOCK_NB)
-    except BlockingIOError:
-        owner = re.match(rb"[0-9]{1,10}", os.read(descriptor, 10))
-        who = f" (process {owner[0].decode()})" if owner else ""
-        raise FolderTaken(f"another watcher keeps this folder current{who}; end it, or name another folder by --dir") from None

@@ -6,9 +6,9 @@ from typing import NamedTuple, Optional, Protocol
 
 from abc2midi_live import Fault
 
-from .fault_groups import groups_of, line_and_name
-from .hints import Hint
-from .printing import count_of, list_of, printable
+from ..common.faults import groups_of, line_and_name
+from ..common.terminal_text import count_of, list_of, printable
+from ..hints import Hint
 
 Write = Callable[[str], object]
 MOST_HINTS = 20  # that are printed when the book is opened

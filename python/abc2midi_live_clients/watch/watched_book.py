@@ -9,12 +9,12 @@ from typing import Optional
 from abc2midi_live import Built, Fault, ProgramEnded, ProgramMissing
 from abc2midi_live.lines import lines_of_book
 
-from .book_file import BookFile
-from .hints import MOST_AT_ONCE, Finder, Hint
+from ..common.book_file import BookFile
+from ..common.player import Player
+from ..common.session_book import LiveBook, Tune, files_of
+from ..hints import MOST_AT_ONCE, Finder, Hint
 from .known_remarks import KnownRemarks
 from .midi_folder import MidiFolder
-from .players import Player
-from .program import LiveBook, Tune, files_of
 from .reports import Change, File, Report
 
 FAILED, HAS_FAULTS = 1, 3  # exit statuses

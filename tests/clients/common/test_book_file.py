@@ -3,7 +3,7 @@
 from unittest import mock
 
 import trial
-from abc2midi_live_clients import book_file
+from abc2midi_live_clients.common import book_file
 
 
 @mock.patch.object(book_file, "signature_of", lambda _: (1, 2, 3, 4, 5))

@@ -1,6 +1,7 @@
 """The words that completion offers, in the language server and in the page."""
 
 import json
+import re
 import unittest
 from typing import Optional
 
@@ -10,7 +11,7 @@ import trial
 from browser_keys import CONTROL, DOWN, END, ENTER, ESCAPE, LEFT, SHIFT, TAB
 from abc2midi_live_clients.language_server.completion import Situation, completions
 
-TABLE = json.loads((trial.PACKAGES / "abc2midi_live_clients/completion.json").read_text("utf-8"))
+TABLE = json.loads((trial.PACKAGES / "abc2midi_live_clients/common/completion.json").read_text("utf-8"))
 FIFTHS = "FCGDAEB"  # each a fifth above the one before
 MODES = {"Lydian": "lyd", "major": "", "Mixolydian": "mix", "Dorian": "dor", "minor": "m", "Phrygian": "phr", "Locrian": "loc"}  # each a sharp less
 
@@ -30,15 +31,27 @@ class Keys(unittest.TestCase):
         self.assertEqual(TABLE["values"]["K"], found)
 
 
+class Programs(unittest.TestCase):
+    """The programs of General MIDI."""
+
+    def test_the_page_of_instruments(self) -> None:
+        """It has all of the table, with their numbers."""
+        names = [name for family in TABLE["instruments"].values() for name in family]
+        rows = [(f"| {family} |", f" {number} {name}") for family, those in TABLE["instruments"].items() for name in those for number in (names.index(name),)]
+        text = (trial.TOP / "docs/instruments.md").read_text("utf-8").split("\n")
+        found = [(line[: line.index("|", 1) + 1], cell) for line in text if re.match(r"\| .* \| \d", line) for cell in re.split(",(?= \\d)", line[line.index("|", 1) + 1 : -2])]
+        self.assertEqual((found, len(found)), (rows, 128))
+
+
 class Scripts(page_in_node.PageScripts):
     def test_scripts(self) -> None:
-        self.assert_ok("page_completion.mjs", 6, str(trial.PACKAGES / "abc2midi_live_clients/completion.json"))
+        self.assert_ok("editor/page_completion.mjs", 6, str(trial.PACKAGES / "abc2midi_live_clients/common/completion.json"))
 
     def test_as_in_editors(self) -> None:
         """The page offers what the language server offers, but for decorations and the properties of a key."""
         asked: list[tuple[str, bool, Optional[int], list[str]]]
         asked = [("", True, 3, []), ("K", True, None, []), ("K:", False, None, []), ("c [M:", False, None, []), ("V: ", False, None, ["a", "b"]), ("%%M", False, None, []), ("w", False, None, []), ("C", False, None, []), ("T:K", True, None, [])]
-        lines = self.node("page_completion.mjs", json.dumps(asked), (str(trial.PACKAGES / "abc2midi_live_clients/completion.json"), "answer"))
+        lines = self.node("editor/page_completion.mjs", json.dumps(asked), (str(trial.PACKAGES / "abc2midi_live_clients/common/completion.json"), "answer"))
         places = [Situation(before, header, number, voices) for before, header, number, voices in asked]
         wanted = [[[item.text, item.meaning, item.start] for item in completions(place) if item.text not in TABLE["properties"]] for place in places]
         self.assertEqual(json.loads(lines[0]), wanted)

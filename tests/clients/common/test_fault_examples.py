@@ -1,7 +1,7 @@
 """The examples of docs/faults.md: the one before has its fault, and the one after has none."""
 
 import trial
-from abc2midi_live_clients.faults import meanings
+from abc2midi_live_clients.common.faults import meanings
 
 
 class FaultExamples(trial.Folder):

@@ -12,9 +12,9 @@ from unittest import mock
 
 import trial
 from abc2midi_live import Built, ClosedError, Edit, Fault, ProgramEnded, ProgramMissing, Report, edits
-from abc2midi_live_clients import places, players, program
-from abc2midi_live_clients.faults import sentences
-from abc2midi_live_clients.program import LiveBook, Tune
+from abc2midi_live_clients.common import line_places, options, player as players, session_book
+from abc2midi_live_clients.common.faults import sentences
+from abc2midi_live_clients.common.session_book import LiveBook, Tune
 
 LONG = 3.0  # seconds: longer than a busy machine takes for a call
 
@@ -26,13 +26,14 @@ def lines(text: str) -> list[bytes]:
 class Texts(trial.Folder):
     def test_bytes_and_characters(self) -> None:
         line = "aé𝄞\ud83dz€"
-        wanted = [n for n, character in enumerate(line) for _ in places.utf8(character)]
-        self.assertEqual([places.character_of(line, n + 1) for n in range(len(wanted))], wanted)
-        self.assertEqual([places.character_of("abc", n) for n in (1, 2, 3)], [0, 1, 2])
-        self.assertEqual(places.from_utf16(places.utf16("a\ud834") + places.utf16("\udd1eb")), "a𝄞b")
+        wanted = [n for n, character in enumerate(line) for _ in line_places.utf8(character)]
+        self.assertEqual([line_places.character_of(line, n + 1) for n in range(len(wanted))], wanted)
+        self.assertEqual([line_places.character_of("abc", n) for n in (1, 2, 3)], [0, 1, 2])
+        self.assertEqual(line_places.from_utf16(line_places.utf16("a\ud834") + line_places.utf16("\udd1eb")), "a𝄞b")
 
-    def test_titles_in_latin_1(self) -> None:
-        self.assertEqual([places.text_of(b"caf\xe9"), places.text_of("café".encode())], ["café", "café"])
+    def test_titles_in_windows_1252(self) -> None:
+        self.assertEqual([line_places.text_of(b"caf\xe9 \x93\x81"), line_places.text_of("café “\x81".encode())], 2 * ["café “\x81"])
+        self.assertEqual([line_places.windows_1252(text) for text in ("“é\x81", "\x93", "Ω", "Ã©")], [b"\x93\xe9\x81", None, None, None])
 
     def test_each_fault_has_a_sentence(self) -> None:
         source = Path(trial.TOP, "crates/abc_fields/src/fault_code.rt").read_text("utf-8")
@@ -107,7 +108,7 @@ class Program(trial.Folder):
 
     def test_the_file_of_a_number(self) -> None:
         tunes = [Tune(1, "A", 1), Tune(1, "B", 5), Tune(2, "C", 9)]
-        self.assertEqual(program.files_of(tunes, [Fault(1, 1, "TuneTooLong")]), {1: tunes[1], 2: tunes[2]})
+        self.assertEqual(session_book.files_of(tunes, [Fault(1, 1, "TuneTooLong")]), {1: tunes[1], 2: tunes[2]})
 
     def test_lines_of_too_many_bytes(self) -> None:
         book = self.book()
@@ -121,7 +122,7 @@ class Program(trial.Folder):
 
     def test_a_text_of_too_many_lines(self) -> None:
         """The program never holds more lines than it takes, which are ten here."""
-        for module in (program, edits):
+        for module in (session_book, edits):
             patched = mock.patch.object(module, "MOST_LINES", 10)
             patched.start()
             self.addCleanup(patched.stop)
@@ -195,6 +196,16 @@ class Program(trial.Folder):
                 self.assertLess(time.monotonic() - since, LONG)
                 self.wait_for_the_end(processes)
 
+    def test_a_player_that_ends_in_order(self) -> None:
+        """It has a while for that after the signal."""
+        player = self.player("trap 'sleep 0.3; echo ended >>PIDS; exit' TERM; echo $$ >>PIDS; while :; do sleep 0.05; done")
+        player.play("1.mid")
+        processes = self.processes(1)
+        with mock.patch.object(players, "SECONDS_TO_END", trial.SECONDS):
+            player.stop()
+            self.wait_for_the_end(processes)
+        self.assertEqual((self.folder / "pids").read_text(), f"{processes[0]}\nended\n")
+
     def test_a_player_that_fails(self) -> None:
         """It is reported once."""
         for script, how in ("exit 3", "ended with status 3"), ("kill -9 $$", "was killed by signal 9"), ("exit 0", None):
@@ -224,7 +235,7 @@ class Program(trial.Folder):
     def test_what_to_do_without_a_program(self) -> None:
         with mock.patch("abc2midi_live.find_program", side_effect=ProgramMissing("run ./build, or name a program")):
             with self.assertRaisesRegex(ProgramMissing, "^run ./build, or name a program by --program$"):
-                program.find_program()
+                options.find_program()
 
 
 HEAD = "X:1\nM:4/4\nK:C\n"

@@ -10,11 +10,11 @@ import trial
 COMMANDS = ["watch", "page", "language_server", "archive"]
 OURS = ("abc2midi_live", "abc2midi_live_clients", "abc2midi_live_archive")
 SLOW = {"asyncio", "concurrent", "email", "html", "http", "importlib.metadata", "multiprocessing", "ssl", "unittest", "zipfile"}
-MOST_FOR_VERSION, MOST_FOR_ANSWER = 70, 150  # modules
+MOST_FOR_VERSION, MOST_FOR_ANSWER = 70, 151  # modules
 
-# Runs a command, and sends it Ctrl-C when it imports a module, or when it reads its arguments.
+# Runs a command, and sends it Ctrl-C when it imports a module, when it reads its arguments, or when Python ends after it.
 INTERRUPTED = """
-import argparse, os, runpy, signal, sys
+import argparse, atexit, os, runpy, signal, sys
 _, place, *sys.argv = sys.argv
 class Interrupt:
     def find_spec(self, name, *_):
@@ -23,6 +23,8 @@ class Interrupt:
 sys.meta_path.insert(0, Interrupt())
 if place == "arguments":
     argparse.ArgumentParser.parse_args = lambda _: os.kill(os.getpid(), signal.SIGINT)
+if place == "end":
+    atexit.register(lambda: os.kill(os.getpid(), signal.SIGINT))
 runpy.run_path(sys.argv[0], run_name="__main__")
 """
 
@@ -72,12 +74,20 @@ class Imports(Starts):
 
     def test_ctrl_c(self) -> None:
         """It ends the command, which prints nothing."""
-        for name, module in zip(COMMANDS, ("watcher", "page_server", "language_server", "faults")):
+        for name, module in zip(COMMANDS, ("watch.command", "page.command", "language_server", "common.faults")):
             for place in ("abc2midi_live", f"abc2midi_live_clients.{module}", "arguments"):
                 with self.subTest(name, place=place):
                     words = [sys.executable, "-c", INTERRUPTED, place, str(trial.CLIENTS / name)]
                     ran = subprocess.run(words, capture_output=True, timeout=trial.SECONDS)
                     self.assertEqual((ran.returncode, ran.stdout, ran.stderr), (-signal.SIGINT, b"", b""))
+
+    def test_ctrl_c_after_the_end(self) -> None:
+        """It prints no more than the command did."""
+        for name in COMMANDS:
+            words = [sys.executable, "-c", INTERRUPTED, "end", str(trial.CLIENTS / name), "--none"]
+            ran = subprocess.run(words, capture_output=True, text=True, timeout=trial.SECONDS)
+            self.assertEqual((ran.returncode, ran.stdout, "Traceback" in ran.stderr), (-signal.SIGINT, "", False), ran.stderr)
+            self.assertIn("usage: ", ran.stderr)
 
     def test_the_version_beside_another_option(self) -> None:
         printed = self.imported("watch", "--no-hints", "--version")[1]

@@ -5,9 +5,9 @@ import re
 from typing import NamedTuple, Optional
 
 import trial
-from abc2midi_live_clients.faults import sentences
+from abc2midi_live_clients.common.faults import sentences
+from abc2midi_live_clients.common.session_book import LiveBook, Tune
 from abc2midi_live_clients.hints import NAMES, Finder, Hint
-from abc2midi_live_clients.program import LiveBook, Tune
 
 NO_EXAMPLE = "ManyTunes"  # its text is too long for an example
 WHITE_LINES = ["V:\f", "V:\r\r", "[V:\v]C|", "K:D\v^c", "\f"]  # with white space that is no blank
@@ -23,7 +23,7 @@ class Example(NamedTuple):
 
 def examples() -> list[Example]:
     """The examples of the file."""
-    text = (trial.TOP / "tests/clients/hints.txt").read_text("utf-8")
+    text = (trial.TOP / "tests/clients/hints/hints.txt").read_text("utf-8")
     return [example(part) for part in text.split("\n### ")[1:]]
 
 

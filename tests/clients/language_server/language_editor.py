@@ -4,7 +4,7 @@ import unittest
 from typing import Any
 
 import trial
-from abc2midi_live_clients.language_server.messages import Json
+from abc2midi_live_clients.common.json_object import Json
 from abc2midi_live_clients.language_server.server import Server
 from abc2midi_live_clients.language_server.workspace import Settings
 

@@ -6,9 +6,10 @@ import unittest
 from typing import Any
 
 import trial  # noqa: F401
+from abc2midi_live_clients.common.json_object import Json
 from abc2midi_live_clients.language_server.general_midi import PROGRAMS
 from abc2midi_live_clients.language_server.inbox import Inbox
-from abc2midi_live_clients.language_server.messages import BadMessage, Json
+from abc2midi_live_clients.language_server.messages import BadMessage
 from language_editor import Editor, span
 
 

@@ -2,7 +2,7 @@
 
 import trial  # noqa: F401
 from language_editor import URI, Editor, span
-from abc2midi_live_clients.language_server.messages import Json
+from abc2midi_live_clients.common.json_object import Json
 
 VOICES = "X:1\nT:Two\nP:AB\nV:hi clef=treble\nV:lo clef=bass\nM:4/4\nK:C\nP:A\nV:hi\nC8|\nV:lo\nC,8|\nP:B\n[V:hi]D8|[V:lo]D,8|\n"
 SECTIONS = "X:1\nM:4/4\nL:1/4\nK:C\n|:CDEF:|\nGABc|cBAG||\n\nX:2\nK:C\nC\n\n% a\n% b\n"
@@ -118,6 +118,21 @@ class Names(Editor):
         for letter in "A", "AB", "b", "", 7:
             self.assertEqual(self.at("rename", 2, 3, newName=letter), -32602, letter)
         self.assertEqual(self.at("rename", 9, 0, newName="x"), -32803)
+
+    def test_a_rename_of_a_voice_that_a_score_names(self) -> None:
+        """In each of the lines that place voices on staves, and nowhere else in them."""
+        self.open("X:1\n%%score [(1 Top)|{1 *Top2}] % Top\nI:staves (Top 1)\n%%staves[Top|1]\n%%scoreTop\n%%scale Top\nK:C\nV:Top\nC\nV:1\nC\n% Top\n")
+        named = [(1, 12), (2, 10), (3, 9), (7, 2)]
+        for line, character in named:
+            (change,) = self.at("rename", line, character, newName="S")["documentChanges"]
+            self.assertEqual([(*at["range"]["start"].values(), at["range"]["end"]["character"]) for at in change["edits"]], [(*at, at[1] + 3) for at in named])
+            self.assertEqual(self.at("definition", line, character)["range"], span(7, 2, 7, 5))
+        for name in "S)", "[S", "S|", "*", "{":
+            self.assertEqual(self.at("rename", 7, 2, newName=name), -32602, name)
+        self.assertEqual(self.at("rename", 1, 22, newName="S")["documentChanges"][0]["edits"][0]["range"], span(1, 21, 1, 25))
+        self.assertEqual(self.at("rename", 5, 9, newName="S"), -32803)
+        self.open("X:1\nK:C\nV:1\nC\n")
+        self.assertEqual(len(self.at("rename", 2, 2, newName="(S)")["documentChanges"][0]["edits"]), 1)
 
     def test_other_tunes(self) -> None:
         """A voice of another tune is another voice."""

@@ -14,14 +14,14 @@ from typing import Any, Optional
 from unittest import mock
 
 import trial
-from abc2midi_live_clients import program
-from abc2midi_live_clients.language_server import changes, document, remarks
-from abc2midi_live_clients.faults import sentences
-from abc2midi_live_clients.hints import Finder
-from abc2midi_live_clients.program import open_library
-from abc2midi_live_clients.language_server.messages import Json
 from abc2midi_live import version
 from abc2midi_live.lines import lines_of_book
+from abc2midi_live_clients.common import session_book
+from abc2midi_live_clients.common.faults import sentences
+from abc2midi_live_clients.common.json_object import Json
+from abc2midi_live_clients.common.options import open_library
+from abc2midi_live_clients.hints import Finder
+from abc2midi_live_clients.language_server import diagnostics as remarks, document, text_changes
 
 URI = "file:///book.abc"
 BOOK = "X:1\nT:Kesh\nK:G\nGABc &\n\nX:2\nK:C\nCDE -\n"
@@ -622,13 +622,13 @@ class Documents(trial.Folder):
             start = chance.randrange(len(text) + 1)
             end = min(len(text), start + chance.choice([0, 1, 3, 30]))
             put = chance.choice(["", "\n", "a", "é\n", "\na𝄞\r\n\n", "\r", "a\ré", "\r\r\n", "\n\r"])
-            place = changes.Range(changes.Position(*place_of(text, start)), changes.Position(*place_of(text, end)))
-            book.change(changes.Change(place, put))
+            place = text_changes.Range(text_changes.Position(*place_of(text, start)), text_changes.Position(*place_of(text, end)))
+            book.change(text_changes.Change(place, put))
             text = text[:start] + put + text[end:]
             self.assertEqual(book.book.lines, lines_of_book(text.encode()))
             for at in [at for at in range(len(text) + 1) if text[at - 1 : at + 1] != "\r\n"]:
                 line, _, before = text[:at].rpartition("\n")
-                position = changes.Position(*place_of(text, at))
+                position = text_changes.Position(*place_of(text, at))
                 here = text[:at].count("\n"), len(before)
                 self.assertEqual((book.character(position), book.text.position(*here)), (here, position), (text, at))
 
@@ -636,14 +636,14 @@ class Documents(trial.Folder):
         """A text that did not change has the same faults and hints."""
         book = document.Document("X:1\nK:C\n|:C&D|\n", open_library(trial.library), {}, Finder(trial.library))
         self.addCleanup(book.close)
-        faults = mock.patch.object(program.SessionBook, "faults", autospec=True, side_effect=program.SessionBook.faults)
+        faults = mock.patch.object(session_book.SessionBook, "faults", autospec=True, side_effect=session_book.SessionBook.faults)
         hints = mock.patch.object(Finder, "take", autospec=True, side_effect=Finder.take)
         with faults as asked, hints as sought:
             for _ in range(3):
                 self.assertIn("BadByte", [remark.name for remark in remarks.remarks_in(book, 2, 2)])
                 remarks.remarks_to_send(book)
             self.assertEqual((asked.call_count, sought.call_count), (1, 1))
-            book.change(changes.Change(changes.Range(changes.Position(2, 3), changes.Position(2, 4)), ""))
+            book.change(text_changes.Change(text_changes.Range(text_changes.Position(2, 3), text_changes.Position(2, 4)), ""))
             self.assertNotIn("BadByte", [remark.name for remark in remarks.remarks_in(book, 2, 2)])
 
 
@@ -707,6 +707,12 @@ class Protocol(Editor):
         place = {"textDocument": {"uri": URI}, "position": {"line": 1, "character": 0}}
         path = self.ask("workspace/executeCommand", {"command": "play", "arguments": [place]})
         self.assertEqual(os.path.basename(path), "1.mid")
+        self.finish()
+
+    def test_the_option_of_many_editors(self) -> None:
+        self.server.kill()
+        self.start("--stdio")
+        self.ask("initialize", {})
         self.finish()
 
     def test_a_library_that_is_not_there(self) -> None:

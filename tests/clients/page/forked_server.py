@@ -11,7 +11,7 @@ import tempfile
 from typing import Optional
 from unittest import mock
 
-from abc2midi_live_clients import page_server, served_files
+from abc2midi_live_clients.page import command, served_files
 
 KEY = "00" * 32
 
@@ -25,7 +25,7 @@ def serve(words: list[str], environment: dict[str, str], output: int, errors: in
     sys.argv[1:] = words
     folder = served_files.cached_folder
     with mock.patch.object(served_files, "cached_folder", lambda _, files: folder(KEY, files)):
-        sys.exit(page_server.main())
+        sys.exit(command.main())
 
 
 class ForkedServer:

@@ -7,9 +7,11 @@ import re
 import stat
 import subprocess
 import sys
+import threading
 import time
 import unittest
 import urllib.request
+from http.server import BaseHTTPRequestHandler, HTTPServer
 from pathlib import Path
 from types import SimpleNamespace
 from typing import cast
@@ -17,14 +19,14 @@ from unittest import mock
 from urllib.parse import unquote, urlsplit
 
 import trial
-from abc2midi_live_clients import page_server
-from abc2midi_live_clients.opening_page import PageNote
+from abc2midi_live_clients.page.address_file import AddressFile
+from abc2midi_live_clients.page.server import SECONDS_ALONE, Server
 
 START = """import sys
-from abc2midi_live_clients import opening_page, page_server
-opening_page.SECONDS_TO_ANSWER = {seconds}
-page_server.SECONDS_ALONE = {alone}
-sys.exit(page_server.main())
+from abc2midi_live_clients.page import address_file, command, server
+address_file.SECONDS_TO_ANSWER = {seconds}
+server.SECONDS_ALONE = {alone}
+sys.exit(command.main())
 """
 
 
@@ -98,6 +100,39 @@ class Opening(trial.Folder):
         self.start()  # the note of a page that was killed leads nowhere
         self.opened(3)
 
+    def test_a_name_that_is_no_utf_8(self) -> None:
+        """The page opens, and shows the name as far as it can be shown."""
+        self.book = Path(os.fsdecode(os.fsencode(self.folder) + b"/Fr\xe8re.abc"))
+        self.book.write_bytes(b"X:1\nK:C\nC\n")
+        page = self.start()
+        (given,) = self.opened(1)
+        self.assertIn(".abc</title>", Path(unquote(urlsplit(given).path)).read_text())
+        self.assertIsNone(page.poll())
+
+    def test_another_program_at_the_port(self) -> None:
+        """It answers everything by 200, and gets no token: the book gets a page of its own."""
+        asked: list[str] = []
+
+        class Taker(BaseHTTPRequestHandler):
+            def do_GET(self) -> None:
+                asked.append(self.path)
+                self.send_response(200)
+                self.end_headers()
+                self.wfile.write(b'{"run": "0", "proof": "0"}')
+
+            def log_message(self, *_: object) -> None:
+                pass
+
+        with HTTPServer(("127.0.0.1", 0), Taker) as taker, mock.patch.dict(os.environ, {"XDG_RUNTIME_DIR": str(self.session)}):
+            threading.Thread(target=taker.serve_forever, daemon=True).start()
+            AddressFile(str(self.book)).write(f"http://127.0.0.1:{taker.server_port}/{'t' * 32}/")
+            page = self.start()
+            assert page.stdout
+            self.assertRegex(page.stdout.readline(), "^http://127")
+            taker.shutdown()
+        self.assertEqual([path for path in asked if "t" * 32 in path], [])
+        self.assertEqual(len(asked), 1)
+
     def test_it_ends_without_a_window(self) -> None:
         page = self.start(alone=1)
         self.assertEqual(page.wait(trial.SECONDS), 0, page.stderr and page.stderr.read())
@@ -110,8 +145,8 @@ class Alone(unittest.TestCase):
         """Whether it ends a long time after its start."""
         book = SimpleNamespace(windows=SimpleNamespace(count=lambda: windows), now=lambda: {"unsaved": is_unsaved})
         server = SimpleNamespace(ends_alone=ends_alone, book=book, seen=0.0)
-        with mock.patch("time.monotonic", return_value=10.0 * page_server.SECONDS_ALONE):
-            return page_server.Server.is_left(cast(page_server.Server, server))
+        with mock.patch("time.monotonic", return_value=10.0 * SECONDS_ALONE):
+            return Server.is_left(cast(Server, server))
 
     def test_it_waits_for_windows_and_for_a_save(self) -> None:
         found = [self.is_left(0, False), self.is_left(1, False), self.is_left(0, True), self.is_left(0, False, ends_alone=False)]
@@ -124,7 +159,7 @@ class Notes(trial.Folder):
     def test_a_later_start_has_the_note(self) -> None:
         """The end of an earlier one leaves it there."""
         with mock.patch.dict(os.environ, {"XDG_RUNTIME_DIR": str(self.files)}):
-            first, second = PageNote("book.abc"), PageNote("book.abc")
+            first, second = AddressFile("book.abc"), AddressFile("book.abc")
         first.write("http://127.0.0.1:1/first/")
         second.write("http://127.0.0.1:1/second/")
         first.remove()

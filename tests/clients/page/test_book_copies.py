@@ -3,12 +3,12 @@
 import os
 from typing import Any
 
-import test_page
-from abc2midi_live_clients import saving
-from abc2midi_live_clients.rows import Json
+import served_page
+from abc2midi_live_clients.common.json_object import Json
+from abc2midi_live_clients.page import saving
 
 
-class Copies(test_page.Page):
+class Copies(served_page.Page):
     """What `save-as` writes, and what it refuses."""
 
     def copy(self, name: Any, **more: Any) -> Json:
@@ -31,8 +31,8 @@ class Copies(test_page.Page):
         """It has the text of the windows; the book stays as it was, unsaved."""
         self.edit(0, 0, "% é 𝄞")
         state = self.copy("other name.abc")
-        self.assertEqual((self.folder / "other name.abc").read_bytes(), "% é 𝄞\n".encode() + test_page.BOOK)
-        self.assertEqual((self.path.read_bytes(), state["unsaved"], self.book()["name"]), (test_page.BOOK, True, "book.abc"))
+        self.assertEqual((self.folder / "other name.abc").read_bytes(), "% é 𝄞\n".encode() + served_page.BOOK)
+        self.assertEqual((self.path.read_bytes(), state["unsaved"], self.book()["name"]), (served_page.BOOK, True, "book.abc"))
         self.assertFalse([name for name in os.listdir(self.folder) if name.startswith(".")])
         self.save()
         self.finish()
@@ -59,7 +59,7 @@ class Copies(test_page.Page):
         there.write_bytes(b"changed meanwhile")
         self.assertEqual((self.copy("there.abc", over=saving.digest(b"mine"))["status"], there.read_bytes()), (409, b"changed meanwhile"))
         self.copy("there.abc", over=saving.digest(b"changed meanwhile"))
-        self.assertEqual(there.read_bytes(), test_page.BOOK)
+        self.assertEqual(there.read_bytes(), served_page.BOOK)
         self.assertEqual(self.copy("gone.abc", over=saving.digest(b"mine"))["there"], None)
         self.assertFalse((self.folder / "gone.abc").exists())
         self.finish()
@@ -89,7 +89,7 @@ class Copies(test_page.Page):
         self.edit(0, 0, "%")
         self.refused("book.abc", "this is the book itself: save it")
         os.link(self.path, self.folder / "same.abc")
-        self.refused("same.abc", "this is the book itself: save it", over=saving.digest(test_page.BOOK))
+        self.refused("same.abc", "this is the book itself: save it", over=saving.digest(served_page.BOOK))
         self.finish()
 
     def test_what_is_no_regular_file(self) -> None:
@@ -98,11 +98,11 @@ class Copies(test_page.Page):
         outside = self.folder / "files/outside"
         outside.write_bytes(b"outside")
         (self.folder / "link.abc").symlink_to(outside)
-        for name in ("folder.abc", "link.abc"):
+        for name, kind in (("folder.abc", "a folder"), ("link.abc", "a symbolic link")):
             named: list[Json] = [{}, {"over": saving.digest(b"outside")}]
             for more in named:
                 asked = self.copy(name, **more)
-                self.assertEqual((asked["status"], asked["error"]), (500, "the copy cannot be saved: it is not a regular file"))
+                self.assertEqual((asked["status"], asked["error"]), (500, f"the copy cannot be saved: it is {kind}, and not a regular file"))
         self.assertEqual((outside.read_bytes(), (self.folder / "link.abc").is_symlink()), (b"outside", True))
         outside.unlink()
 
@@ -136,7 +136,7 @@ class Copies(test_page.Page):
         self.finish()
 
 
-class Changes(test_page.Page):
+class Changes(served_page.Page):
     """The changes after a version, for a page that was loaded anew."""
 
     def test_changes(self) -> None:

@@ -8,7 +8,7 @@ from pathlib import Path
 from unittest import mock
 
 import trial
-from abc2midi_live_clients.book_keys import book_key
+from abc2midi_live_clients.page.book_keys import book_key
 
 KEY = "^[0-9a-f]{64}$"
 

@@ -1,24 +1,26 @@
-"""The letters of the page's book: UTF-8, and Latin-1 if a line is not UTF-8."""
+"""The letters of the page's book: UTF-8, and Windows-1252 if a line is not UTF-8."""
 
 import random
 import unittest
 
 import trial
-from abc2midi_live_clients.texts import Text
+from abc2midi_live_clients.page.book_text import Text
 
 
 class Letters(unittest.TestCase):
-    def test_latin1(self) -> None:
-        """Its letters are shown as letters, and what is typed is Latin-1 too, if that has it."""
-        text = Text.of(b"X:1\r\nT:Fr\xe8re\r\nC:\x92\r\n")
-        self.assertEqual([text.shown(line) for line in text.lines], ["X:1", "T:Frère", "C:\x92", ""])
-        self.assertEqual(text.letters.name(), "latin-1")
-        for typed, written in (("T:é", b"T:\xe9\r"), ("T:é’", "T:é’\r".encode()), ("T:Ã©", "T:Ã©\r".encode()), ("T:\udc01é", b"T:\x01\xe9\r")):
+    def test_windows_1252(self) -> None:
+        """Its letters are shown as letters, quotes too; the bytes that it leaves out are controls. What is typed is Windows-1252 too, if
+        that has it."""
+        text = Text.of(b"X:1\r\nT:Fr\xe8re\r\nC:O\x92Carolan \x93x\x94 \x80\x9d\r\n")
+        self.assertEqual([text.shown(line) for line in text.lines], ["X:1", "T:Frère", "C:O’Carolan “x” €\x9d", ""])
+        self.assertEqual(text.letters.name(), "windows-1252")
+        self.assertEqual(text.places(text.lines[2]).span(5, 6), [4, 5])
+        for typed, written in (("T:é", b"T:\xe9\r"), ("T:é’", b"T:\xe9\x92\r"), ("T:Ω’", "T:Ω’\r".encode()), ("T:\x92", "T:\x92\r".encode()), ("T:Ã©", "T:Ã©\r".encode()), ("T:\udc01é", b"T:\x01\xe9\r")):
             now = text.edited(text.edit_of(1, 2, [typed]))
             self.assertEqual((now.lines[1], now.shown(now.lines[1])), (written, typed))
 
     def test_a_book_with_lines_of_both(self) -> None:
-        """A new line is UTF-8, one instead of a Latin-1 line Latin-1, and one that was there keeps its bytes."""
+        """A new line is UTF-8, one instead of a Windows-1252 line Windows-1252, and one that was there keeps its bytes."""
         text = Text.of("T:é\n".encode() + b"T:\xe8\n")
         self.assertEqual(text.letters.name(), "both")
         self.assertEqual(text.edit_of(0, 0, ["à"]).lines, ["à".encode()])
@@ -36,12 +38,12 @@ class Letters(unittest.TestCase):
 
     def test_the_name_follows_edits(self) -> None:
         text = Text.of(b"\xe9\n\xe8\n")
-        for edit, name in (((0, 1, ["a"]), "latin-1"), ((1, 2, ["€"]), "utf-8"), ((0, 1, ["é"]), "utf-8")):
+        for edit, name in (((0, 1, ["a"]), "windows-1252"), ((1, 2, ["€"]), "windows-1252"), ((1, 2, ["Ω"]), "utf-8"), ((0, 1, ["é"]), "utf-8")):
             text = text.edited(text.edit_of(*edit))
             self.assertEqual((text.letters.name(), text.letters), (name, Text.of(text.data()).letters))
 
     def test_places(self) -> None:
-        """A letter of Latin-1 is one byte, one of UTF-8 more."""
+        """A letter of Windows-1252 is one byte, one of UTF-8 more."""
         text = Text.of(b"\xe9\xe8C-\n" + "éèC-".encode())
         self.assertEqual([text.places(text.lines[0]).span(4, 5), text.places(text.lines[1]).span(6, 7)], [[3, 4], [3, 4]])
 

@@ -7,8 +7,9 @@ import unittest
 import page_in_node
 import trial
 from abc2midi_live import Fault
-from abc2midi_live_clients.program import Tune
-from abc2midi_live_clients.rows import Json, TuneRows, difference, moved
+from abc2midi_live_clients.common.json_object import Json
+from abc2midi_live_clients.common.session_book import Tune
+from abc2midi_live_clients.page.finding_rows import TuneRows, difference, moved
 
 LINES, TEXTS, CHANGES = 8, 300, 5
 
@@ -33,7 +34,7 @@ class Scripts(page_in_node.PageScripts):
                 rows = sorted(chance.sample(before, len(before) // 2) + self.rows(chance, count, f"{text}.{number}"))
                 asked[-1]["changes"].append({"edit": edit, "difference": difference(before, rows)})
             wanted.append(json.dumps([rows, [change["difference"] for change in asked[-1]["changes"]]], separators=(",", ":")))
-        self.assertEqual(self.node("page_rows.mjs", json.dumps(asked)), wanted)
+        self.assertEqual(self.node("link/page_finding_rows.mjs", json.dumps(asked)), wanted)
 
     def rows(self, chance: random.Random, count: int, name: str) -> list[tuple[int, str]]:
         """Rows of a text of `count` lines: of some lines none, of some several."""

@@ -6,6 +6,8 @@ import os
 import re
 import signal
 import socket
+import subprocess
+import sys
 import tempfile
 import time
 import unittest
@@ -17,10 +19,12 @@ from typing import Any
 from unittest import mock
 
 import heard_page
-import test_page
+import served_page
 import trial
-from abc2midi_live_clients import book_folder
-from abc2midi_live_clients.book_folder import books_in, content_of, search
+from abc2midi_live_clients.page import book_folder
+from abc2midi_live_clients.page.book_folder import books_in, content_of, search
+from abc2midi_live_clients.page.folder_server import OpenBooks, PrintedLines
+from abc2midi_live_clients.page.refused import Refused
 
 REELS = b"X:1\nT:Kesh\nK:G\nGABc|\n\nX:2\nT:Other <b>\nK:C\nCDE|\n"
 LATIN = "X:1\nT:Frère Jacques\nK:F\nFGAF|\n".encode("latin-1")
@@ -84,7 +88,29 @@ class Books(trial.Folder):
                 content_of(self.books / name)
 
 
-class Served(test_page.Page):
+class Printed(trial.Folder):
+    """What the server of a book prints."""
+
+    def test_more_than_a_pipe_has_room_for(self) -> None:
+        """It is not held up, and its last lines are kept."""
+        script = "import sys\nfor n in range(20_000): print('line', n, file=sys.stderr)\nsys.stderr.write('y' * 99_999)"
+        server = subprocess.Popen([sys.executable, "-c", script], stdout=subprocess.PIPE, stderr=subprocess.PIPE, text=True)
+        self.addCleanup(server.kill)
+        printed = PrintedLines(server)
+        self.assertEqual(server.wait(trial.SECONDS), 0)
+        server.communicate()
+        self.assertIn("line 19999\nyyy", printed.text())
+        self.assertNotIn("line 19000\n", printed.text())
+
+    def test_the_server_of_a_book(self) -> None:
+        books = OpenBooks(self.folder, [])
+        self.addCleanup(books.close)
+        with mock.patch.object(sys, "executable", "/bin/sh"), self.assertRaisesRegex(Refused, "cannot be opened: .*option"):
+            books.address("book.abc")
+        self.assertTrue(books.printed["book.abc"].lines)
+
+
+class Served(served_page.Page):
     """The server of a folder, as a process of its own."""
 
     def setUp(self) -> None:

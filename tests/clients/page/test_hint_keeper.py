@@ -6,10 +6,10 @@ from typing import Optional, cast
 from unittest import mock
 
 import trial  # noqa: F401
-from abc2midi_live_clients import page_server
-from abc2midi_live_clients.hint_process import HintRow
-from abc2midi_live_clients.page_server import HintKeeper
-from abc2midi_live_clients.shared_book import SharedBook
+from abc2midi_live_clients.page import hint_keeper
+from abc2midi_live_clients.page.hint_keeper import HintKeeper
+from abc2midi_live_clients.page.hint_process import HintRow
+from abc2midi_live_clients.page.shared_book import SharedBook
 
 HINT: HintRow = (2, 1, 2, "Overlay", "")
 MOST_QUESTIONS = 20
@@ -61,8 +61,8 @@ class Process:
 
 
 class Keeping(unittest.TestCase):
-    @mock.patch.object(page_server, "HintProcess", Process)
-    @mock.patch.object(page_server, "SECONDS_OF_REST", 0)
+    @mock.patch.object(hint_keeper, "HintProcess", Process)
+    @mock.patch.object(hint_keeper, "SECONDS_OF_REST", 0)
     @mock.patch.object(Process, "ends", {1: 1, 2: MOST_QUESTIONS})
     def test_a_process_that_ends(self) -> None:
         """It is asked once more. If it ends again, the version has no hints, and the next one is asked about."""
@@ -71,12 +71,12 @@ class Keeping(unittest.TestCase):
             HintKeeper(cast(SharedBook, book)).keep()
         self.assertEqual((book.asked, book.hints), ([0, 1, 1, 2, 2, 3, 4], [[HINT], [HINT], [], [HINT]]))
 
-    @mock.patch.object(page_server, "SECONDS_OF_REST", 0)
+    @mock.patch.object(hint_keeper, "SECONDS_OF_REST", 0)
     @mock.patch.object(Process, "ends", {1: 2})
     def test_a_process_that_cannot_be_started(self) -> None:
         """The version has no hints, and a later one has them when it can be started again."""
         full = OSError(errno.EAGAIN, "Resource temporarily unavailable")
         book = Book(4)
-        with mock.patch.object(page_server, "HintProcess", side_effect=[Process(Book.library), full, Process(Book.library)]), self.assertRaises(Ended):
+        with mock.patch.object(hint_keeper, "HintProcess", side_effect=[Process(Book.library), full, Process(Book.library)]), self.assertRaises(Ended):
             HintKeeper(cast(SharedBook, book)).keep()
         self.assertEqual((book.asked, book.hints), ([0, 1, 1, 2, 3, 4], [[HINT], [], [HINT], [HINT]]))

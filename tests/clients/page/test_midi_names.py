@@ -3,7 +3,7 @@
 import json
 
 import page_in_node
-from abc2midi_live_clients.midi_names import midi_name
+from abc2midi_live_clients.page.midi_names import midi_name
 
 NAMES = {
     (2, "Two Sisters by the Weir"): "2 Two Sisters by the Weir.mid",
@@ -23,4 +23,4 @@ class Names(page_in_node.PageScripts):
         """They are as wanted, and short enough for a file system."""
         self.assertEqual([midi_name(*asked) for asked in NAMES], list(NAMES.values()))
         self.assertLess(max(len(name.encode()) for name in NAMES.values()), 256)
-        self.assertEqual([json.loads(line) for line in self.node("page_names.mjs", json.dumps(list(NAMES)))], list(NAMES.values()))
+        self.assertEqual([json.loads(line) for line in self.node("tunes/page_midi_names.mjs", json.dumps(list(NAMES)))], list(NAMES.values()))

@@ -3,8 +3,8 @@
 import os
 
 import trial
-from abc2midi_live_clients.hint_process import HintProcess, Question
-from abc2midi_live_clients.texts import Text
+from abc2midi_live_clients.page.book_text import Text
+from abc2midi_live_clients.page.hint_process import HintProcess, Question
 
 QUESTION = Question(Text.of(b"X:1\nK:C\nC&C\n"), [], [(0, 1, "", True)])
 

@@ -8,158 +8,37 @@ import os
 import pwd
 import random
 import re
-import resource
 import signal
 import socket
 import stat
 import subprocess
 import sys
-import threading
-import time
 import unittest
 import zipfile
-from collections.abc import Callable, Iterator
-from contextlib import contextmanager
-from email.message import Message
+from collections.abc import Callable
 from pathlib import Path
-from typing import Any, Optional, Union
+from typing import Any, Union
 from unittest import mock
 
 import trial
-from abc2midi_live_clients import hint_process, page_requests, rows, saving, shared_book, texts
-from abc2midi_live_clients.faults import meanings
+from abc2midi_live_clients.common.faults import meanings
+from abc2midi_live_clients.common.json_object import Json
 from abc2midi_live_clients.hints import Finder
-from abc2midi_live_clients.rows import Json
-from forked_server import ForkedServer
+from abc2midi_live_clients.page import book_text, finding_rows, hint_process, request_handler, saving, shared_book
+from served_page import BOOK, Page
 
-BOOK = b"X:1\nT:Kesh\nK:G\nGABc &\n\nX:2\nK:C\nCDE -\n"
 BOOK_FAULTS = [[3, 5, 6, "BadByte"], [7, 4, 5, "LooseTie"]]
-UNSAVED = "page: the text is not saved; the browser keeps it, and offers it when the page is at port {} again\n"
-
-
-class Page(trial.Folder):
-    """The server as a process of its own, over a book."""
-
-    opening = BOOK
-
-    def setUp(self) -> None:
-        super().setUp()
-        self.path = self.folder / "book.abc"
-        self.path.write_bytes(self.opening)
-        self.start(str(self.path))
-
-    def free_port(self) -> int:
-        """The port of a server whose test names none: 0 is any free one."""
-        return 0
-
-    def start(self, *words: str, port: Optional[str] = "", descriptors: int = 1024, hints: bool = False, font: str = "") -> None:
-        """Starts it, with a folder for what it leaves, and a limit of descriptors. With None for a port it has that of its book. Without
-        a SoundFont the sounds are plain."""
-        options = [*([] if port is None else ["--port", port or str(self.free_port())]), *([] if hints else ["--no-hints"])]
-        options += ["--sound-font", font] if font else ["--plain-sounds"]
-        environment = {"TMPDIR": str(self.files), "XDG_STATE_HOME": str(self.folder / "state")}
-        self.server = self.begun([*words, *options, "--library", trial.library], environment, descriptors)
-        self.limit(self.server)
-        assert self.server.stdout
-        self.address = self.server.stdout.readline().decode().strip()
-        found = re.fullmatch(r"http://127\.0\.0\.1:(\d+)/([\w-]{32})/", self.address)
-        assert found, self.address
-        self.port, self.token = int(found[1]), found[2]
-
-    def begun(self, words: list[str], environment: dict[str, str], descriptors: int) -> "Union[subprocess.Popen[bytes], ForkedServer]":
-        """The process of the command with these words."""
-        return subprocess.Popen(
-            [sys.executable, str(trial.clients / "page"), *words],
-            stdout=subprocess.PIPE, stderr=subprocess.PIPE, env={**os.environ, **environment},
-            preexec_fn=lambda: resource.setrlimit(resource.RLIMIT_NOFILE, (descriptors, descriptors)),
-        )  # fmt: skip
-
-    def request(
-        self, name: str, asked: Any = None, headers: Optional[dict[str, str]] = None, path: Optional[str] = None
-    ) -> tuple[int, Message, bytes]:
-        """The status, the headers and the bytes that answer a request: one that brings `asked`, if there is any."""
-        connection = http.client.HTTPConnection("127.0.0.1", self.port, timeout=trial.SECONDS)
-        data = asked if asked is None or isinstance(asked, bytes) else json.dumps(asked).encode()
-        connection.request("GET" if asked is None else "POST", path or f"/{self.token}/{name}", data, headers or {})
-        answer = connection.getresponse()
-        found = answer.status, answer.headers, answer.read()
-        connection.close()
-        return found
-
-    def ask(self, name: str, asked: Any = None) -> Json:
-        """The object that answers a request, with its status if it is an error."""
-        status, _, data = self.request(name, asked)
-        return {**json.loads(data), **({"status": status} if status != 200 else {})}
-
-    def book(self) -> Json:
-        return self.ask("book")
-
-    def edit(self, start: int, stop: int, *lines: Any) -> Json:
-        """What answers an edit of the present text."""
-        state = self.ask("state")
-        asked = {"run": state["run"], "version": state["version"], "start": start, "stop": stop, "lines": lines}
-        return self.ask("edit", asked)
-
-    def save(self, **more: Any) -> Json:
-        """What answers a save of the present text."""
-        state = self.ask("state")
-        return self.ask("save", {"run": state["run"], "version": state["version"], **more})
-
-    def finish(self, by: signal.Signals = signal.SIGTERM, new: Union[str, Path] = "") -> None:
-        """Ends the server, which leaves nothing. It printed nothing, but for the name of a new book, and where unsaved text is."""
-        is_unsaved = self.ask("state")["unsaved"]
-        self.server.send_signal(by)
-        said = self.server.communicate(timeout=trial.SECONDS)
-        wanted = f"page: {new}: there is no such file; the page begins with an empty text, and the first save makes the file\n" if new else ""
-        wanted += UNSAVED.format(self.port) if is_unsaved else ""
-        self.assertEqual((said, self.server.returncode, os.listdir(self.files)), ((b"", wanted.encode()), 0, []))
-
-    def raw(self, data: bytes) -> bytes:
-        """What is answered to bytes, after which nothing more comes."""
-        with socket.create_connection(("127.0.0.1", self.port), trial.SECONDS) as connection:
-            connection.sendall(data)
-            connection.shutdown(socket.SHUT_WR)
-            return b"".join(iter(lambda: connection.recv(65536), b""))
-
-    @contextmanager
-    def window(self, name: str = "window") -> Iterator[Iterator[Json]]:
-        """The messages to a window, one after another, while it is open."""
-        head = f"GET /{self.token}/events/0/{name} HTTP/1.1\r\nHost: 127.0.0.1:{self.port}\r\n\r\n".encode()
-        with socket.create_connection(("127.0.0.1", self.port), trial.SECONDS) as connection:
-            connection.sendall(head)
-            stream = connection.makefile("rb")
-            yield (json.loads(line) for line in stream if line.startswith(b"{"))
-            stream.close()
-
-    def told(self, wanted: Callable[[Json], object]) -> Json:
-        """Waits till the state of the book is as wanted."""
-        until = time.monotonic() + trial.SECONDS
-        while not wanted(state := self.ask("state")):
-            self.assertLess(time.monotonic(), until, state)
-            time.sleep(0.05)
-        return state
-
-    def key(self) -> str:
-        """The key of the book, which comes with the page."""
-        found = re.search(r'<meta name="key" content="([^"]*)">', self.request("")[2].decode())
-        assert found
-        return found[1]
-
-    def kept_key(self) -> Path:
-        """The only file with a key."""
-        (kept,) = (self.folder / "state/abc2midi_live/keys").iterdir()
-        return kept
 
 
 class Requests(Page):
     """What the server answers."""
 
     def test_files_of_the_page(self) -> None:
-        for name, kind in (("", "text/html"), ("page.css", "text/css"), ("page.js", "text/javascript"), ("sheet.js", "text/javascript")):
+        for name, kind in (("", "text/html"), ("shell/page.css", "text/css"), ("shell/application.js", "text/javascript"), ("editor/text_sheet.js", "text/javascript")):
             status, headers, data = self.request(name)
             self.assertEqual((status, headers["Content-Type"].partition(";")[0], bool(data)), (200, kind, True))
             self.assertIn("default-src 'none'", headers["Content-Security-Policy"])
-            self.assertEqual(headers["Referrer-Policy"], "no-referrer")
+            self.assertEqual((headers["Referrer-Policy"], headers["Cross-Origin-Opener-Policy"]), ("no-referrer", "same-origin"))
             self.assertNotIn(b"http", data)
         self.finish()
 
@@ -223,7 +102,7 @@ class Requests(Page):
             status, headers, data = self.request(f"midi/{number}")
             self.assertEqual((status, headers["Content-Type"], data), (200, "audio/midi", files[f"{number}.mid"]))
             self.assertEqual(headers["Content-Disposition"], "attachment")
-        for name in ("midi/3", "midi/0000000001", "midi/-1", "midi/", "midi/1/", "midi/../page.js", "../shared_book.py", "%2e%2e/watch", "index.html"):
+        for name in ("midi/3", "midi/0000000001", "midi/-1", "midi/", "midi/1/", "midi/../shell/application.js", "../shared_book.py", "%2e%2e/watch", "index.html"):
             self.assertEqual(self.request(name)[0], 404, name)
         self.assertEqual(self.request("midi/000000001")[2], files["1.mid"])
 
@@ -441,7 +320,7 @@ class Files(Page):
         self.path.write_bytes(book)
         self.start(str(self.path))
         whole = self.book()
-        self.assertEqual((whole["lines"], whole["tunes"], whole["letters"]), (["X:1", "T:Frère", "K:C", "C éè -", ""], [[0, 1, "Frère", True]], "latin-1"))
+        self.assertEqual((whole["lines"], whole["tunes"], whole["letters"]), (["X:1", "T:Frère", "K:C", "C éè -", ""], [[0, 1, "Frère", True]], "windows-1252"))
         faults: list[list[Any]] = [[3, 2, 3, "BadByte"], [3, 3, 4, "BadByte"], [3, 5, 6, "LooseTie"]]
         self.assertEqual(whole["faults"], faults)
         self.edit(0, 0, "% été")
@@ -600,12 +479,12 @@ class Strangers(Page):
         own = f"127.0.0.1:{self.port}"
         for path in ("/", "//", "/book", f"/{self.token[:-1]}/book", f"/{self.token}x/book", f"/{self.token.swapcase()}/book", f"book/{self.token}/"):
             self.assertEqual(self.request("", path=path)[0], 403, path)
-        for host in ("evil.example", f"evil.example:{self.port}", "127.0.0.1", "", f"{own}.evil.example", f"127.0.0.2:{self.port}"):
+        for host in ("evil.example", f"evil.example:{self.port}", "127.0.0.1", "", f"{own}.evil.example", f"127.0.0.2:{self.port}", f"localhost:{self.port}", f"[::1]:{self.port}"):
             self.assertEqual(self.request("book", headers={"Host": host})[0], 403, host)
         for origin in ("http://evil.example", "null", f"https://{own}", f"http://127.0.0.1:{self.port + 1}", f"http://{own}.evil.example"):
             self.assertEqual(self.request("edit", {}, {"Origin": origin})[0], 403, origin)
-        for host in (own, f"localhost:{self.port}"):
-            self.assertEqual(self.request("book", headers={"Host": host, "Origin": f"http://{host}"})[0], 200)
+        self.assertEqual(self.request("edit", {}, {"Origin": f"http://localhost:{self.port}"})[0], 403)
+        self.assertEqual(self.request("book", headers={"Host": own, "Origin": f"http://{own}"})[0], 200)
         self.assertIn(b" 403 ", self.raw(f"GET /{self.token}/book HTTP/1.0\r\n\r\n".encode()))
         twice = f"GET /{self.token}/book HTTP/1.1\r\nHost: {own}\r\nHost: evil\r\n\r\n"
         self.assertIn(b" 403 ", self.raw(twice.encode()))
@@ -808,10 +687,10 @@ class Packets(unittest.TestCase):
         ends = socket.socketpair(socket.AF_UNIX, socket.SOCK_SEQPACKET)
         server = mock.Mock(hosts={"here"}, token="token")
         server.files.cached.return_value = None
-        server.files.by_name = {"page.css": (b"body {}", "text/css")}
-        ends[0].sendall(b"GET /token/page.css HTTP/1.1\r\nHost: here\r\nConnection: close\r\n\r\n")
-        with mock.patch.object(page_requests.Request, "disable_nagle_algorithm", False):  # these sockets have none
-            page_requests.Request(ends[1], ("", 0), server)
+        server.files.by_name = {"shell/page.css": (b"body {}", "text/css")}
+        ends[0].sendall(b"GET /token/shell/page.css HTTP/1.1\r\nHost: here\r\nConnection: close\r\n\r\n")
+        with mock.patch.object(request_handler.Request, "disable_nagle_algorithm", False):  # these sockets have none
+            request_handler.Request(ends[1], ("", 0), server)
         packet = ends[0].recv(65536)
         self.assertEqual((packet[:15], packet.partition(b"\r\n\r\n")[2]), (b"HTTP/1.1 200 OK", b"body {}"))
         for end in ends:
@@ -827,8 +706,8 @@ class Faults(trial.Folder):
         path.write_bytes(b"X:1\nK:C\n" + "é𝄞&\x1bC\n".encode() + b"&" * 1000 + b"\n[]2 C0 \"\n\xff\xbf&")
         book = shared_book.SharedBook(str(path), trial.library)
         self.addCleanup(book.close)
-        with mock.patch.object(texts.Text, "shown", autospec=True, side_effect=texts.Text.shown) as shown:
-            found = [row[:3] for row in rows.shown_rows(book.text, book.rows.faults)]
+        with mock.patch.object(book_text.Text, "shown", autospec=True, side_effect=book_text.Text.shown) as shown:
+            found = [row[:3] for row in finding_rows.shown_rows(book.text, book.rows.faults)]
         self.assertEqual(shown.call_count, 4)
         self.assertEqual(found[:4], [[2, 0, 1], [2, 1, 3], [2, 3, 4], [2, 4, 5]])
         self.assertEqual(found[4:1004], [[3, n, n + 1] for n in range(1000)])
@@ -843,7 +722,7 @@ class Faults(trial.Folder):
         book = shared_book.SharedBook(str(path), trial.library)
         self.addCleanup(book.close)
         hints = hint_process.hint_rows(Finder(trial.library), hint_process.Question(book.text, *book.rows))
-        marked = [(lines[line][start:end], name) for line, start, end, name, *_ in [*rows.shown_rows(book.text, book.rows.faults), *hints]]
+        marked = [(lines[line][start:end], name) for line, start, end, name, *_ in [*finding_rows.shown_rows(book.text, book.rows.faults), *hints]]
         faults = [("M:9/0", "BadMeter"), ("[K:Q]", "BadKey"), ("^f''0", "BadLength"), (lines[4], "BadProgram"), ("K:HP", "BadKey")]
         self.assertEqual(marked, [*faults, ("[C-E]", "TieToOtherKey"), ("K:HP", "BagpipeKey")])
 

@@ -5,11 +5,11 @@ from unittest import mock
 
 import trial
 from abc2midi_live import BookTooLarge, reading
-from abc2midi_live_clients import recent_changes
-from abc2midi_live_clients.book_file import BookFile
-from abc2midi_live_clients.recent_changes import RecentChanges
-from abc2midi_live_clients.rows import Json
-from abc2midi_live_clients.saving import read_book
+from abc2midi_live_clients.common.book_file import BookFile
+from abc2midi_live_clients.common.json_object import Json
+from abc2midi_live_clients.page import windows
+from abc2midi_live_clients.page.saving import read_book
+from abc2midi_live_clients.page.windows import RecentChanges
 
 
 def change(version: int, *lines: str) -> Json:
@@ -25,7 +25,7 @@ class Limits(trial.Folder):
         changes.extend(change(version, "C") for version in range(300))
         self.assertEqual(self.versions(changes), list(range(100, 300)))
 
-    @mock.patch.object(recent_changes, "MOST_CHARACTERS", 10)
+    @mock.patch.object(windows, "MOST_CHARACTERS", 10)
     def test_long_changes(self) -> None:
         """The last one stays, however long it is."""
         changes = RecentChanges()

@@ -8,7 +8,9 @@ from typing import Any, Optional
 from unittest import mock
 
 import trial
-from abc2midi_live_clients import saving
+from abc2midi_live_clients.common import replaced_file
+from abc2midi_live_clients.common.regular_file import NotRegular
+from abc2midi_live_clients.page import saving
 
 OLD, NEW = b"old\n", b"new\n"
 
@@ -77,9 +79,36 @@ class Saving(trial.Folder):
                 self.save()
         self.assert_is(b"third")
         self.write(OLD)
-        with mock.patch.object(saving, "LIBRARY", None):
+        with mock.patch.object(replaced_file, "LIBRARY", None):
             self.save()
         self.assert_is(NEW)
+
+    def test_a_replaced_file_that_cannot_be_read(self) -> None:
+        """It comes back, whatever the reason is: another program's text may be in it."""
+        read = saving.read_book
+        for error in (OSError(5, "Input/output error"), NotRegular("book.abc"), MemoryError(), KeyboardInterrupt()):
+
+            def read_or_fail(path: str, error: BaseException = error) -> Optional[bytes]:
+                if path != self.path:
+                    raise error
+                return read(path)
+
+            self.write(OLD)
+            with mock.patch.object(saving, "read_book", read_or_fail), self.subTest(error=error):
+                with self.meanwhile("compare", lambda: self.replace(b"other"), 2), self.assertRaises(type(error)):
+                    self.save()
+            self.assert_is(b"other")
+
+    def test_a_replaced_file_that_is_none(self) -> None:
+        """A link that another program puts there at the last moment comes back, too."""
+
+        def link() -> None:
+            os.unlink(self.path)
+            os.symlink("elsewhere", self.path)
+
+        with self.meanwhile("compare", link, 2), self.assertRaises(NotRegular):
+            self.save()
+        self.assertEqual((os.readlink(self.path), os.listdir(self.files)), ("elsewhere", ["book.abc"]))
 
     def replace(self, data: bytes) -> None:
         """Writes the book as editors do that rename a new file."""
@@ -114,11 +143,11 @@ class Saving(trial.Folder):
             before = os.lstat(self.path)
             acts: list[Callable[[], object]] = [self.save, lambda: self.save(None), lambda: saving.read_book(self.path)]
             for act in acts:
-                with self.assertRaises(saving.NotRegular):
+                with self.assertRaises(NotRegular):
                     act()
             self.assertEqual(os.lstat(self.path), before)
             remove(self.path)
-        with self.assertRaises(saving.NotRegular):
+        with self.assertRaises(NotRegular):
             saving.read_book(os.devnull)
 
     def test_a_long_name(self) -> None:

@@ -3,10 +3,10 @@
 import re
 import socket
 
-import test_page
+import served_page
 import test_page_in_browser
 import trial
-from abc2midi_live_clients import served_files
+from abc2midi_live_clients.page import served_files
 
 STRANGERS = 32  # connections of strangers that the server keeps
 UNREAD = """
@@ -15,7 +15,7 @@ return [files.length, files.filter(({ transferSize }) => transferSize > 0).map((
 """  # how many cached files the page has, and those that were sent again
 
 
-class Cached(test_page.Page):
+class Cached(served_page.Page):
     """What the server answers at the address of the cached files."""
 
     def links(self) -> list[str]:
@@ -24,34 +24,34 @@ class Cached(test_page.Page):
 
     def folder_of_files(self) -> str:
         """The address of the folder, with its slash."""
-        (folder,) = {link.rpartition("/")[0] for link in self.links()}
+        (folder,) = {link[: link.index("/", len("/files/"))] for link in self.links()}
         return f"{folder}/"
 
     def test_a_browser_may_cache_scripts_and_styles_alone(self) -> None:
-        names = [link.rpartition("/")[2] for link in self.links()]
-        self.assertEqual([name for name in names if name.endswith(".js")], ["again.js", "served_page.js"])
-        self.assertEqual(names[1:-1], re.findall(r"[a-z]+\.css", (served_files.FILES / "index.html").read_text()))
-        for name in (*names, "page.js", "find_worker.js"):
+        names = [link.removeprefix(self.folder_of_files()) for link in self.links()]
+        self.assertEqual([name for name in names if name.endswith(".js")], ["shell/reload_on_failure.js", "shell/served_page.js"])
+        self.assertEqual(names[1:-1], re.findall(r'"([a-z_/]+\.css)"', (served_files.FILES / "index.html").read_text()))
+        for name in (*names, "shell/application.js", "editor/search_worker.js"):
             status, headers, data = self.request("", path=self.folder_of_files() + name)
             self.assertEqual((status, data), (200, (served_files.FILES / name).read_bytes()), name)
             self.assertEqual(headers["Cache-Control"], "private, max-age=31536000, immutable")
             self.assertEqual((headers["X-Content-Type-Options"], headers["Referrer-Policy"]), ("nosniff", "no-referrer"))
             self.assertIn("default-src 'none'", headers["Content-Security-Policy"])
-        for name in ("", "page.js", "book", "completion.json"):
+        for name in ("", "shell/application.js", "book", "completion.json"):
             self.assertEqual(self.request(name)[1]["Cache-Control"], "no-store", name)
         self.assertNotIn(self.token, self.folder_of_files())
         self.finish()
 
     def test_nothing_else_is_there(self) -> None:
         folder = self.folder_of_files()
-        for name in ("", "book", "state", "text", "midi/1", "midi.zip", "index.html", "../page_server.py", "%2e%2e/page_server.py", "page.js/", "page.js?", "/page.js"):
+        for name in ("", "book", "state", "text", "midi/1", "midi.zip", "index.html", "../starting.py", "%2e%2e/starting.py", "shell/application.js/", "shell/application.js?", "/shell/application.js", "shell", "shell/", "shell/../shell/application.js", "static/static_page.js", "static/service_worker.js"):
             self.assertEqual(self.request("", path=folder + name)[0], 403, name)
         other = folder[:-2] + ("0" if folder[-2] != "0" else "1") + "/"
         for path in (other, folder[:-2] + "/", folder.upper(), "/files/", "/", f"/{self.token}{folder}x/"):
-            self.assertIn(self.request("", path=f"{path}page.js")[0], (403, 404), path)
-        self.assertEqual(self.request("", {}, path=f"{folder}page.js")[0], 403)
+            self.assertIn(self.request("", path=f"{path}shell/application.js")[0], (403, 404), path)
+        self.assertEqual(self.request("", {}, path=f"{folder}shell/application.js")[0], 403)
         for header in ({"Host": "evil.example"}, {"Host": f"127.0.0.1:{self.port + 1}"}, {"Origin": "http://evil.example"}, {"Origin": "null"}):
-            self.assertEqual(self.request("", headers=header, path=f"{folder}page.js")[0], 403, header)
+            self.assertEqual(self.request("", headers=header, path=f"{folder}shell/application.js")[0], 403, header)
         self.finish()
 
     def test_from_start_to_start(self) -> None:
@@ -64,7 +64,7 @@ class Cached(test_page.Page):
         self.finish()
         self.start(str(self.path))
         self.assertNotEqual(self.folder_of_files(), folder)
-        self.assertEqual(self.request("", path=f"{folder}page.js")[0], 403)
+        self.assertEqual(self.request("", path=f"{folder}shell/application.js")[0], 403)
         self.finish()
 
     def test_other_files(self) -> None:
@@ -82,7 +82,7 @@ class Cached(test_page.Page):
 
     def test_a_connection_for_files_stays(self) -> None:
         """More strangers than the server keeps do not end it."""
-        request = f"GET {self.folder_of_files()}again.js HTTP/1.1\r\nHost: 127.0.0.1:{self.port}\r\n\r\n".encode()
+        request = f"GET {self.folder_of_files()}shell/reload_on_failure.js HTTP/1.1\r\nHost: 127.0.0.1:{self.port}\r\n\r\n".encode()
         with socket.create_connection(("127.0.0.1", self.port), trial.SECONDS) as connection:
             stream = connection.makefile("rb")
             for _ in range(2):

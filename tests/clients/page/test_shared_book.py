@@ -15,11 +15,12 @@ from unittest import mock
 
 import trial
 from abc2midi_live import OutOfMemory, TokenKind
-from abc2midi_live_clients import saving, shared_book, shared_text, views
-from abc2midi_live_clients.asked import Refused
-from abc2midi_live_clients.rows import Json, moved
-from abc2midi_live_clients.saving import digest, save_book
-from abc2midi_live_clients.shared_book import SharedBook
+from abc2midi_live_clients.common.json_object import Json
+from abc2midi_live_clients.page import saving, shared_book, shared_text, tokens_and_plays
+from abc2midi_live_clients.page.finding_rows import moved
+from abc2midi_live_clients.page.refused import Refused
+from abc2midi_live_clients.page.saving import digest, save_book
+from abc2midi_live_clients.page.shared_book import SharedBook
 
 SAVES = 400 if os.environ.get("LONG_LOOPS") else 60
 SLOWEST = 0.008  # seconds that a call of the disk takes
@@ -379,7 +380,7 @@ class Views(trial.Folder):
 
     def test_limits(self) -> None:
         """Of very many lines, tokens or entries a window gets some, or none."""
-        with mock.patch.multiple(views, MOST_LINES=4, MOST_TOKENS=6, MOST_ENTRIES=3):
+        with mock.patch.multiple(tokens_and_plays, MOST_LINES=4, MOST_TOKENS=6, MOST_ENTRIES=3):
             view = self.ask(self.book.view, 2, 6, 1)
             self.assertEqual((len(view["tokens"]), view["play"]), (2, None))
             self.assertEqual(len(self.ask(self.book.view, 0, 6, None)["tokens"]), 3)
@@ -394,3 +395,18 @@ class Views(trial.Folder):
         self.assertEqual((caught.exception.status, self.book.version), (413, 0))
         self.assertEqual(self.ask(self.book.edit, 4, 5, None, start=4, stop=5, lines=["z"])["tokens"], [[0, 1, REST, 0]])
         self.assertIsNot(self.book.session.book, before)
+
+    def test_any_exception_after_an_edit_was_handed_over(self) -> None:
+        """The windows have not seen the edit, so the next one finds a session without it."""
+        for place, name in ((self.book.session, "rows"), (shared_text, "view_of"), (shared_text, "difference"), (shared_text, "are_others")):
+            for error in (RuntimeError("odd"), MemoryError(), KeyboardInterrupt()):
+                version, fresh = self.book.version, trial.fresh(self.book.data())
+                with self.subTest(name, error=error), mock.patch.object(place, name, side_effect=error):
+                    with self.assertRaises((RuntimeError, KeyboardInterrupt, Refused, MemoryError)):
+                        self.ask(self.book.edit, 3, 4, None, start=0, stop=1, lines=["X:7"])
+                self.assertEqual(self.book.version, version)
+                self.assertEqual(self.book.midi(1), fresh.files["1.mid"])
+                with self.assertRaises(Refused):
+                    self.book.midi(7)
+                self.ask(self.book.edit, 0, 1, None, start=4, stop=5, lines=["D" * (1 + version % 5)])
+                self.assertEqual([self.book.midi(1)], list(trial.fresh(self.book.data()).files.values()))

@@ -5,16 +5,16 @@ import struct
 import music_page
 import page_in_node
 import sound_fonts
-import test_page
+import served_page
 import trial
-from abc2midi_live_clients.sound_font import BadFont, SoundFont, find_font
+from abc2midi_live_clients.page.sound_font import BadFont, SoundFont, find_font
 
 SAMPLES = [100 * n - 3000 for n in range(60)]
 
 
 class Scripts(page_in_node.PageScripts):
     def test_scripts(self) -> None:
-        self.assert_ok("page_font.mjs", 6)
+        self.assert_ok("music/page_sound_font.mjs", 6)
 
 
 class Fonts(trial.Folder):
@@ -62,7 +62,7 @@ class Fonts(trial.Folder):
             self.assertTrue(all(0 <= zone["start"] < zone["stop"] <= font.count for zone in zones), place)
 
 
-class Answers(test_page.Page):
+class Answers(served_page.Page):
     """What the server answers."""
 
     def test_a_font(self) -> None:

@@ -13,11 +13,11 @@ from typing import Any, Optional
 from unittest import mock
 
 import browser
-import test_page
+import served_page
 import test_page_in_browser
 import trial
-from abc2midi_live_clients import web_socket
-from abc2midi_live_clients.web_socket import BadMessage, WebSocket, answering_headers, version
+from abc2midi_live_clients.page import web_socket
+from abc2midi_live_clients.page.web_socket import BadMessage, WebSocket, answering_headers, version
 from forked_server import ForkedServer
 
 KEY, ACCEPTED = "dGhlIHNhbXBsZSBub25jZQ==", "s3pPLMBiTxaQ9kYGzzhZRbK+xOo="  # the example of RFC 6455
@@ -94,7 +94,7 @@ class Frames(unittest.TestCase):
             self.assertEqual((answers.getvalue()[:1], answers.getvalue()[2:4]), (b"\x88", struct.pack(">H", status)))
 
 
-class Messages(test_page.Page):
+class Messages(served_page.Page):
     """What the server answers to messages. It is a fork, which has the packages of this process."""
 
     def begun(self, words: list[str], environment: dict[str, str], _: int) -> ForkedServer:

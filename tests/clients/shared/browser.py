@@ -25,12 +25,12 @@ for (const { prototype } of [AudioScheduledSourceNode, AudioBufferSourceNode]) {
     return start.call(this, when);
   };
 }
-addEventListener("beforeunload", (event) => event.stopImmediatePropagation());
+addEventListener("beforeunload", (event) => window.asksToStay || event.stopImmediatePropagation());
 Object.defineProperty(AudioContext.prototype, "outputLatency", { get: () => 0 });
 window.wrong = [];
 addEventListener("error", ({ message }) => window.wrong.push(message));
 addEventListener("unhandledrejection", ({ reason }) => window.wrong.push(String(reason)));
-"""  # Web Audio by a clock that the test moves, and each note that it gets: when, and its key, and how many are of samples; no page asks to stay; what went wrong
+"""  # Web Audio by a clock that the test moves, and each note that it gets: when, and its key, and how many are of samples; no page asks to stay but for a test that wants it; what went wrong
 
 
 def lacking() -> str:

@@ -15,7 +15,7 @@ from contextlib import contextmanager
 from pathlib import Path
 from typing import Any, NamedTuple, Optional
 
-TOP = Path(__file__).resolve().parent.parent.parent
+TOP = Path(__file__).resolve().parents[3]
 CLIENTS = TOP / "clients"  # the commands
 PACKAGES = TOP / "python"
 SECONDS = 300  # that a process may take, on a slow machine too
@@ -46,6 +46,7 @@ def installed_clients(folder: Path) -> Path:
     commands, packages = folder / "bin", folder / "share/abc2midi_live"
     shutil.copytree(CLIENTS, commands)
     shutil.copytree(PACKAGES, packages)
+    shutil.copytree(TOP / "page", packages / "abc2midi_live_clients/page_files", ignore=shutil.ignore_patterns("static"))
     version = subprocess.run([TOP / "scripts/build/version"], capture_output=True, text=True, check=True).stdout
     (packages / "version").write_text(version)
     compileall.compile_dir(packages, quiet=1)

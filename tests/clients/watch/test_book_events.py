@@ -13,10 +13,10 @@ from contextlib import suppress
 from unittest import mock
 
 import trial
-from abc2midi_live_clients import watcher
-from abc2midi_live_clients.book_events import BookEvents, Place, places_of
-from abc2midi_live_clients.midi_folder import MidiFolder
-from abc2midi_live_clients.reports import JsonReport
+from abc2midi_live_clients.watch import command
+from abc2midi_live_clients.watch.book_events import BookEvents, Place, places_of
+from abc2midi_live_clients.watch.midi_folder import MidiFolder
+from abc2midi_live_clients.watch.reports import JsonReport
 
 LONG = 60.0  # seconds: longer than a busy machine takes for an event
 needs_inotify = unittest.skipUnless(importlib.util.find_spec("inotify"), "python3-inotify is not installed")
@@ -134,21 +134,21 @@ class Watched(trial.Folder):
         path = self.folder / "book.abc"
         path.write_bytes(b"X:1\nK:C\nC\n")
         words = argparse.Namespace(book=str(path), dir=str(self.files), program=trial.program, play=None, no_hints=True, clean=False, once=False)
-        self.addCleanup(watcher.interrupted.clear)
-        with mock.patch.object(watcher, "SECONDS_BETWEEN_LOOKS", LONG):
+        self.addCleanup(command.interrupted.clear)
+        with mock.patch.object(command, "SECONDS_BETWEEN_LOOKS", LONG):
             watching = threading.Thread(target=self.watch, args=(words,))
             watching.start()
             self.wait_for_file("1.mid")
             path.write_bytes(b"X:1\nK:C\nC\n\nX:2\nK:C\nC\n")
             self.wait_for_file("2.mid")
-            watcher.interrupted.set()
+            command.interrupted.set()
             path.write_bytes(b"X:1\nK:C\nC\n")
             watching.join(LONG / 2)
         self.assertFalse(watching.is_alive())
 
     def watch(self, words: argparse.Namespace) -> None:
         with suppress(KeyboardInterrupt):
-            watcher.watch(words, MidiFolder(words.dir), JsonReport(words.book, {}, lambda _: None))
+            command.watch(words, MidiFolder(words.dir), JsonReport(words.book, {}, lambda _: None))
 
     def wait_for_file(self, name: str) -> None:
         until = time.monotonic() + LONG / 2

@@ -5,13 +5,14 @@ import shutil
 import signal
 import subprocess
 import sys
+from collections.abc import Callable
 from typing import TextIO
 from unittest import mock
 
 import trial
-from abc2midi_live_clients.midi_folder import MidiFolder
-from abc2midi_live_clients.reports import TextReport
-from abc2midi_live_clients.watched_book import prepare
+from abc2midi_live_clients.watch.midi_folder import MidiFolder
+from abc2midi_live_clients.watch.reports import TextReport
+from abc2midi_live_clients.watch.watched_book import prepare
 from watching import OTHER, TUNE, Looks, Process
 
 MISSING, NO_FOLDER = "No such file or directory; make the folder above it first", "Not a directory; name another folder by --dir"
@@ -80,6 +81,24 @@ class Clean(Files):
         what = "1 file of an earlier run that no tune of the book has: 7.mid; --clean removes them"
         self.assertEqual(self.look(), ["no file changed", what, "the book has no tune, so --clean removes nothing"])
         self.assertEqual(os.listdir(self.files), ["7.mid"])
+
+
+class Writing(trial.Folder):
+    """One file of the folder, which the watcher writes again."""
+
+    def test_a_half_file_beside_a_file_that_somebody_deleted(self) -> None:
+        """It is in no way, whether it is a file or a link, which is not followed."""
+        folder, half = MidiFolder(str(self.files)), self.files / ".1.mid.new"
+        other = self.folder / "other"
+        other.write_bytes(b"of somebody else")
+        makes: list[Callable[[], object]] = [lambda: half.write_bytes(b"half"), lambda: half.symlink_to(other)]
+        for make in makes:
+            make()
+            self.assertEqual(folder.missing([1]), [1])
+            folder.write(1, b"whole")
+            self.assertEqual((os.listdir(self.files), (self.files / "1.mid").read_bytes()), (["1.mid"], b"whole"))
+            (self.files / "1.mid").unlink()
+        self.assertEqual(other.read_bytes(), b"of somebody else")
 
 
 class Locks(trial.Folder):

@@ -6,7 +6,7 @@ import signal
 from typing import Any
 
 import trial
-from abc2midi_live_clients.faults import sentences
+from abc2midi_live_clients.common.faults import sentences
 from watching import OTHER, TUNE, Process
 
 

@@ -10,12 +10,13 @@ from unittest import mock
 
 import trial
 from abc2midi_live import Built, ProgramMissing
-from abc2midi_live_clients import book_file
-from abc2midi_live_clients.faults import sentences
+from abc2midi_live_clients.common import book_file
+from abc2midi_live_clients.common.faults import sentences
+from abc2midi_live_clients.common.regular_file import open_regular
+from abc2midi_live_clients.common.session_book import LiveBook
 from abc2midi_live_clients.hints import Finder
 from abc2midi_live_clients.hints.repeats import OPEN_REPEAT
-from abc2midi_live_clients.program import LiveBook
-from abc2midi_live_clients.reports import JsonReport
+from abc2midi_live_clients.watch.reports import JsonReport
 from watching import OTHER, TUNE, Looks, Process
 
 
@@ -92,7 +93,7 @@ class Saves(Looks):
         self.assertEqual(self.save(TUNE + OTHER), ["written 2.mid"])
         self.path.unlink()
         self.path.mkdir()
-        self.assertEqual(self.look(), ["/book.abc: Is a directory; waiting for it"])
+        self.assertEqual(self.look(), ["/book.abc: it is a folder, and not a regular file; waiting for it"])
 
     def test_gone_and_back_unchanged(self) -> None:
         """One line says so, also if the file is the old one, moved away and back."""
@@ -181,8 +182,7 @@ class Unsaved(Looks):
     def setUp(self) -> None:
         super().setUp()
         self.reads = 0
-        opened = book_file.open_regular
-        self.addCleanup(setattr, book_file, "open_regular", opened)
+        opened = open_regular
 
         def counted(path: str) -> Any:
             file = opened(path)
@@ -191,7 +191,9 @@ class Unsaved(Looks):
             counting.read = lambda *size: self.count(read(*size))
             return counting
 
-        book_file.open_regular = counted
+        patch = mock.patch.object(book_file, "open_regular", counted)
+        patch.start()
+        self.addCleanup(patch.stop)
 
     def count(self, data: bytes) -> bytes:
         """Counts what was read."""
@@ -451,7 +453,7 @@ class Running(Process):
     def test_a_pipe_as_the_book(self) -> None:
         os.mkfifo(self.path)
         self.start()
-        self.assertEqual(self.line(), f"{self.path}: Not a regular file; waiting for it\n")
+        self.assertEqual(self.line(), f"{self.path}: it is not a regular file; waiting for it\n")
         self.path.unlink()
         self.path.write_bytes(TUNE)
         self.assertRegex(self.line(), r"^written 1\.mid")

@@ -11,13 +11,13 @@ from pathlib import Path
 from typing import Any, Optional
 
 import trial
-from abc2midi_live_clients.book_file import BookFile
-from abc2midi_live_clients.faults import sentences
+from abc2midi_live_clients.common.book_file import BookFile
+from abc2midi_live_clients.common.faults import sentences
+from abc2midi_live_clients.common.session_book import LiveBook
 from abc2midi_live_clients.hints import Finder
-from abc2midi_live_clients.midi_folder import MidiFolder
-from abc2midi_live_clients.program import LiveBook
-from abc2midi_live_clients.reports import TextReport
-from abc2midi_live_clients.watched_book import WatchedBook
+from abc2midi_live_clients.watch.midi_folder import MidiFolder
+from abc2midi_live_clients.watch.reports import TextReport
+from abc2midi_live_clients.watch.watched_book import WatchedBook
 
 TUNE = b"X:1\nT:Kesh\nK:G\nGABc\n"
 OTHER = b"\nX:2\nK:C\nCDE\n"

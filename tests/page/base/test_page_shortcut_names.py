@@ -1,8 +1,8 @@
-"""Scripts of the page that work on the text, in node. They are skipped if it is not installed."""
+"""The names of keys, in node. It is skipped if node is not installed."""
 
 import page_in_node
 
 
 class Scripts(page_in_node.PageScripts):
     def test_scripts(self) -> None:
-        self.assert_ok("page_text_scripts.mjs", 6)
+        self.assert_ok("base/page_shortcut_names.mjs", 3)

@@ -3,12 +3,12 @@
 
 import { pathToFileURL } from "node:url";
 
-import { run, same } from "./testing.mjs";
+import { run, same } from "../testing.mjs";
 
 const from = (name) => import(pathToFileURL(`${process.argv[2]}/${name}.js`));
-const { Comparing } = await from("comparing");
-const { differencesOf } = await from("differences");
-const { summary } = await from("differences_dialog");
+const { Comparing } = await from("dialogs/compared_texts");
+const { differencesOf } = await from("dialogs/difference_rows");
+const { summary } = await from("dialogs/differences_dialog");
 
 /** The rows of the differences between texts, a letter a line, as words. */
 const rows = (old, now) => differencesOf([...old], [...now]).rows.map(({ kind, old, now, words }) => `${kind} ${old} ${now} ${words}`);

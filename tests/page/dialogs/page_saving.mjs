@@ -3,11 +3,11 @@
 
 import { pathToFileURL } from "node:url";
 
-import { run, same } from "./testing.mjs";
+import { run, same } from "../testing.mjs";
 
 const from = (name) => import(pathToFileURL(`${process.argv[2]}/${name}.js`));
-const { Files, SaveAs } = await from("files");
-const { TitleBar } = await from("title_bar");
+const { Files, SaveAs } = await from("dialogs/book_saving");
+const { TitleBar } = await from("shell/title_bar");
 
 /** An element that has what the page sets, and reports where the focus is. */
 const element = (id) => ({ id, hidden: false, textContent: "", value: "", addEventListener() {}, focus: () => (document.activeElement = parts.get(id)), blur() {}, setSelectionRange() {} });
@@ -74,8 +74,8 @@ const tests = {
   },
 
   "a book that is not UTF-8 has a button, which passes its focus on when it goes"() {
-    same([button("book.abc", "latin-1"), button("book.abc", "both")], [[false, "utf-8"], [false, "utf-8"]]);
-    same([button("book.abc", "utf-8"), button("", "latin-1")], [[true, "back"], [true, "back"]]);
+    same([button("book.abc", "windows-1252"), button("book.abc", "both")], [[false, "utf-8"], [false, "utf-8"]]);
+    same([button("book.abc", "utf-8"), button("", "windows-1252")], [[true, "back"], [true, "back"]]);
   },
 };
 

@@ -3,13 +3,13 @@
 
 import { pathToFileURL } from "node:url";
 
-import { run, same } from "./testing.mjs";
+import { run, same } from "../testing.mjs";
 
 const from = (name) => import(pathToFileURL(`${process.argv[2]}/${name}.js`));
 globalThis.document = { addEventListener() {}, hidden: false };
-const { fileName } = await from("midi_names");
-const { recorded, soundAll } = await from("recording");
-const { wavOf } = await from("wav");
+const { fileName } = await from("tunes/midi_names");
+const { recorded, soundAll } = await from("music/tune_recording");
+const { wavOf } = await from("music/wav_file");
 
 const words = (bytes, from, to) => String.fromCharCode(...new Uint8Array(bytes).slice(from, to));
 const TEMPOS = [{ tick: 0, second: 0, each: 0.01 }];
@@ -27,7 +27,7 @@ class Part {
 
 const started = [];
 const audio = { destination: new Part(), createGain: () => new Part(), createBiquadFilter: () => new Part(), createDynamicsCompressor: () => new Part(), createOscillator: () => new Part() };
-const player = (more = {}) => ({ speed: 1, font: null, volumeOf: () => 1, ...more });
+const player = (more = {}) => ({ speed: 1, font: null, volumeOf: () => 1, shifted: (note) => note, ...more });
 
 const tests = {
   "a file has a head, and the numbers of its channels in turn"() {

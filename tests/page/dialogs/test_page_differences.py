@@ -1,7 +1,7 @@
 """What is different between the text and the book as it was saved, or as it is on the disk."""
 
 import page_in_node
-import test_page
+import served_page
 import test_page_in_browser
 from browser_keys import CONTROL, ESCAPE
 
@@ -11,14 +11,14 @@ FOCUS = "return document.activeElement.textContent"
 
 class Scripts(page_in_node.PageScripts):
     def test_scripts(self) -> None:
-        self.assert_ok("page_differences.mjs", 10)
+        self.assert_ok("dialogs/page_differences.mjs", 10)
 
 
-class Texts(test_page.Page):
+class Texts(served_page.Page):
     """The texts that the server has to compare with."""
 
     def test_saved_and_on_disk(self) -> None:
-        was, now = test_page.BOOK.decode().split("\n"), ["X:9", "T:Frère", ""]
+        was, now = served_page.BOOK.decode().split("\n"), ["X:9", "T:Frère", ""]
         self.edit(0, 1, "X:7")
         self.assertEqual((self.ask("saved"), self.ask("disk")), ({"lines": was}, {"lines": was}))
         self.path.write_bytes("\n".join(now).encode("latin-1"))
@@ -30,7 +30,7 @@ class Texts(test_page.Page):
         self.assertEqual((gone["status"], gone["error"]), (404, "the book is not on the disk any more"))
         self.path.mkdir()
         refused = self.ask("disk")
-        self.assertEqual((refused["status"], refused["error"]), (500, "the book cannot be read: it is not a regular file"))
+        self.assertEqual((refused["status"], refused["error"]), (500, "the book cannot be read: it is a folder, and not a regular file"))
 
     def test_whoever_may_not(self) -> None:
         for name in ("saved", "disk"):

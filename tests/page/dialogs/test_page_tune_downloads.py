@@ -17,7 +17,7 @@ SVG = "{http://www.w3.org/2000/svg}"
 
 class Scripts(page_in_node.PageScripts):
     def test_scripts(self) -> None:
-        self.assert_ok("page_tune_files.mjs", 5)
+        self.assert_ok("dialogs/page_tune_downloads.mjs", 5)
 
 
 class Stored(test_page_in_browser.Browser):

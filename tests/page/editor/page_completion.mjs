@@ -4,11 +4,11 @@
 import { readFileSync } from "node:fs";
 import { pathToFileURL } from "node:url";
 
-import { run, same } from "./testing.mjs";
+import { run, same } from "../testing.mjs";
 
 const [, , folder, file, answer] = process.argv;
-const { completions, narrowed, situationOf } = await import(pathToFileURL(`${folder}/completion.js`));
-const { pairAt } = await import(pathToFileURL(`${folder}/brackets.js`));
+const { completions, narrowed, situationOf } = await import(pathToFileURL(`${folder}/editor/completion.js`));
+const { pairAt } = await import(pathToFileURL(`${folder}/editor/bracket_pairs.js`));
 const WORDS = JSON.parse(readFileSync(file, "utf8"));
 
 const where = (before, more = {}) => ({ before, isInHeader: false, number: null, voices: [], ...more });

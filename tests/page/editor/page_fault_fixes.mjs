@@ -4,9 +4,9 @@
 import { readFileSync } from "node:fs";
 import { pathToFileURL } from "node:url";
 
-import { run, same } from "./testing.mjs";
+import { run, same } from "../testing.mjs";
 
-const { mendOf } = await import(pathToFileURL(`${process.argv[2]}/mends.js`));
+const { mendOf } = await import(pathToFileURL(`${process.argv[2]}/editor/fault_fixes.js`));
 
 /** The lines after a mend, and the words of its button; null without a mend. */
 function mended(lines, fault, ...numbers) {
@@ -28,10 +28,42 @@ const tests = {
   },
 
   "a sharp goes before its note"() {
-    same([line("C F#2", "#", "BadByte"), line("f#", "#", "LostSharp"), line("C #F", "#", "BadByte"), line("C #", "#", "LostSharp")],
-      [["Write ^F", "C ^F2"], ["Write ^f", "^f"], ["Write ^F", "C ^F"], null]);
+    same([line("C F#2", "#", "BadByte"), line("C #F", "#", "BadByte"), line("C #", "#", "LostSharp")], [["Write ^F", "C ^F2"], ["Write ^F", "C ^F"], null]);
     same(line("^F#", "#", "BadByte"), ["Delete #", "^F"]);
     same(line("F#2 C", "2", "BadByte"), null);
+  },
+
+  "sharps, flats and German notes are written as ABC has them, in the whole tune"() {
+    const tune = ["X:1", "K:F#m", 'C f#2 "F#"^F# [F#A]!D#!{g#} % F#', "T:F#", "#G|", "w:F#", "", "F#|"];
+    same(mended(tune, [2, 3, 4, "LostSharp", "a hint"]), ["Write each sharp before its note", "X:1", "K:F#m", 'C ^f2 "F#"^F# [^FA]!D#!{^g} % F#', "T:F#", "^G|", "w:F#", "", "F#|"]);
+    same(mended(['Bb2 Eb|ab =Bb [Bb]{Ab}"Bb"[K:Bb]', "P:Bb", "Gb|", "X:2", "Gb|"], [0, 0, 2, "LostFlat", "a hint"]), ["Write each flat before its note", '_B2 _E|ab =Bb [Bb]{Ab}"Bb"[K:Bb]', "P:Bb", "_G|", "X:2", "Gb|"]);
+    same(mended(['H2 "H"h/|^H', "G|"], [0, 0, 1, "GermanNote", "a hint"]), ["Write B for H", 'B2 "H"b/|^B', "G|"]);
+    same(mended(["C|"], [0, 0, 1, "LostFlat", "a hint"]), null);
+  },
+
+  "markup is deleted, with the lines that have nothing else"() {
+    same(mended(["<pre>", "A<b>c|<br>", '"<br>"C&nbsp;D</b> % <br>', "w:<i>la</i>", "C|", " </pre>", "D|", "", "</pre>"], [0, 0, 5, "Markup", "a hint"]),
+      ["Delete the markup", "A<b>c|", '"<br>"CD % <br>', "w:<i>la</i>", "C|", "D|", "", "</pre>"]);
+  },
+
+  "quotes of a word processor become straight ones, all of a line at once"() {
+    same(line("\u201cBb\u201dB,2 \u201eC\u201f|c\u2019", "\u201c", "BadByte"), ["Write straight quotes", '"Bb"B,2 "C"|c\'']);
+    same(line('"a \u201cb\u201d"C\u201dD % \u201c', "\u201dD", "BadByte"), ["Write straight quotes", '"a \u201cb\u201d"C"D % \u201c']);
+    same(line('"Em\u201dDEF \u201cG\u201d G', '"', "Unclosed"), ["Write straight quotes", '"Em"DEF "G" G']);
+    const at = "\u201c\u00e9C";
+    same(mended([at], [0, 1, 2, "BadByte"]), ["Delete \u00e9", "\u201cC"]);
+  },
+
+  "a space that no keyboard has becomes a blank, and other unseen signs are named"() {
+    same([line("C\u00a0D\u2003|", "\u00a0", "BadByte"), line("C\u200bD", "\u200b", "BadByte"), line("C\udc01D", "\udc01", "BadByte")],
+      [["Write a blank", "C D |"], ["Delete U+200B (zero-width space)", "CD"], ["Delete U+0001 (control)", "CD"]]);
+  },
+
+  "the key of the bagpipe, and the number of a first tune"() {
+    same([line("K: HP % x", "K", "BadKey"), line("C[K:Hp]D", "K", "BagpipeKey"), line("K:HPX", "K", "BadKey"), line("K:X", "K", "BadKey")], [["Write K:D", "K: D % x"], ["Write K:D", "C[K:D]D"], null, null]);
+    const hint = "this text has no tune, so there is no file; a tune begins with a line `X:1`";
+    same(mended(["Hello", "", "T:a", "M:4/4", "CDE|"], [4, 0, 4, "NoTune", hint]), ["Write X:1", "Hello", "", "X:1", "T:a", "M:4/4", "CDE|"]);
+    same(mended(["a\0b"], [0, 0, 3, "NoTune", "this text has no tune, and seems to be in UTF-16; save it in UTF-8"]), null);
   },
 
   "a sign that means nothing is deleted, but for a second melody"() {

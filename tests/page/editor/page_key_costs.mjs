@@ -3,24 +3,24 @@
 
 import { pathToFileURL } from "node:url";
 
-import { sheetRoot } from "./stub_document.mjs";
-import { run, same } from "./testing.mjs";
+import { sheetRoot } from "../stub_document.mjs";
+import { run, same } from "../testing.mjs";
 
 const from = (name) => import(pathToFileURL(`${process.argv[2]}/${name}.js`));
-const { Colours } = await from("colours");
-const { show, write } = await from("elements");
-const { Findings } = await from("findings");
-const { onceAFrame } = await from("frames");
-const { Layer, rowOf } = await from("layer");
-const { replaced } = await from("lines");
-const { Remarks } = await from("remarks");
-const { Roll } = await from("roll");
-const { drawRoll } = await from("roll_picture");
-const { KINDS, Seen } = await from("seen");
-const { Sheet } = await from("sheet");
-const { ShownTune } = await from("shown_tune");
-const { Text } = await from("text");
-const { Tunes } = await from("tunes");
+const { Colours } = await from("editor/token_colours");
+const { show, write } = await from("base/elements");
+const { Findings } = await from("link/findings");
+const { onceAFrame } = await from("base/once_a_frame");
+const { Layer, rowOf } = await from("editor/text_layer");
+const { replaced } = await from("text/line_edits");
+const { Remarks } = await from("editor/fault_remarks");
+const { Roll } = await from("music/piano_roll");
+const { drawRoll } = await from("music/piano_roll_picture");
+const { KINDS, Seen } = await from("link/tokens_and_plays");
+const { Sheet } = await from("editor/text_sheet");
+const { ShownTune } = await from("music/shown_tune");
+const { Text } = await from("text/text");
+const { Tunes } = await from("tunes/tune_list");
 
 const MEASURES = ["scrollTop", "scrollLeft", "scrollWidth", "clientHeight", "clientWidth", "offsetWidth", "offsetHeight"];
 const BOOK = Array.from({ length: 5000 }, (_, n) => [`X:${n + 1}`, "K:C", "CDE", ""]).flat();
@@ -85,7 +85,7 @@ function calls(object, name) {
 
 /** A layer over an element that counts the rows that come and go. */
 function layerOf() {
-  const count = { made: 0, removed: 0 }, children = [], layer = new Layer({ area: { before() {} }, first: 0, height: 20 }, "rows");
+  const count = { made: 0, removed: 0 }, children = [], layer = new Layer({ area: { before() {} }, first: 0, topInArea: (line) => 20 * line }, "rows");
   const insertBefore = (row, next) => children.splice(next ? children.indexOf(next) : children.length, 0, row);
   layer.element = { style: {}, children, insertBefore };
   const make = (key) => {
@@ -135,7 +135,7 @@ function textNode(words) {
 /** Draws a line as the only row of a layer; the nodes of the row. */
 function rowsOfOneLine() {
   document.createElement = () => new Part();
-  const layer = new Layer({ area: { before() {} }, first: 0, height: 20 }, "rows");
+  const layer = new Layer({ area: { before() {} }, first: 0, topInArea: (line) => 20 * line }, "rows");
   return (line, parts) => {
     layer.draw(0, [`${parts} ${line}`], () => rowOf(line, parts));
     same(layer.element.children.length, 1);

@@ -4,12 +4,12 @@
 import { pathToFileURL } from "node:url";
 
 import { NodeWorker } from "./node_worker.mjs";
-import { run, same } from "./testing.mjs";
+import { run, same } from "../testing.mjs";
 
 const folder = process.argv[2];
 const from = (name) => import(pathToFileURL(`${folder}/${name}.js`));
-const { Expressions } = await from("expressions");
-const { Matches, sought } = await from("find");
+const { Expressions } = await from("editor/regex_search");
+const { Matches, sought } = await from("editor/search_matches");
 
 const SECONDS = 300; // that a step may take, on a slow machine too
 const what = (words) => sought({ words, matchesCase: true, isWhole: false, isRegular: true });
@@ -28,7 +28,7 @@ async function until(comes) {
 const searches = []; // of the present test
 
 /** A search over some lines. */
-function searching(lines, words, script = pathToFileURL(`${folder}/find_worker.js`)) {
+function searching(lines, words, script = pathToFileURL(`${folder}/editor/search_worker.js`)) {
   const expressions = new Expressions(() => new NodeWorker(script)), matches = new Matches(lines, what(words));
   const search = { expressions, matches, why: "" };
   expressions.heard = (at, found) => search.matches.learn(at, found);

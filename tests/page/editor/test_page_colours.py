@@ -73,6 +73,15 @@ class Colours(test_page_in_browser.Browser):
         self.driver.execute_cdp_cmd("Emulation.setEmulatedMedia", {"features": [feature]})
         self.addCleanup(lambda: self.driver and self.driver.execute_cdp_cmd("Emulation.setEmulatedMedia", {"features": []}))
 
+    def test_nothing_covers_the_letters(self) -> None:
+        """The marks of a pair of quotes at the caret are below them. A later element is painted over those before it."""
+        self.edit(0, 1, "X:1", "K:D", '"D"D4|')
+        self.load()
+        self.run_script(CARET, 2, 0)
+        self.wait(lambda: self.run_script("return document.querySelectorAll('.brackets .bracket').length") == 2)
+        layers = self.run_script("return [...document.querySelectorAll('.lines > *')].map(({ className, tagName }) => className || tagName)")
+        self.assertEqual(layers[-2:], ["colours", "TEXTAREA"])
+
     def test_parts_of_lines(self) -> None:
         self.edit(0, 1, *TEXT)
         self.load()
@@ -199,8 +208,8 @@ class Colours(test_page_in_browser.Browser):
         self.assertGreaterEqual(self.run_script(room), 6)
 
     def test_long_lines_fade(self) -> None:
-        """Their ends fade at the right side of a telephone till they are scrolled to, and short lines do not."""
-        self.size(390, 844)
+        """Where lines do not wrap, their ends fade at the right side till they are scrolled to, and short lines do not."""
+        self.size(640, 844)
         self.edit(0, 1, "X:1", "K:C", "C")
         self.load()
         self.assertFalse(self.run_script(FADES))

@@ -4,14 +4,14 @@ import json
 
 import page_in_node
 import trial
-from abc2midi_live_clients.faults import meanings
+from abc2midi_live_clients.common.faults import meanings
 
 MENDED = {"BadReference", "BadByte", "Unclosed", "LooseTie", "MissingKey", "BadProgram"}
 
 
 class Scripts(page_in_node.PageScripts):
     def test_scripts(self) -> None:
-        self.assert_ok("page_mends.mjs", 7)
+        self.assert_ok("editor/page_fault_fixes.mjs", 12)
 
 
 class Mended(page_in_node.PageScripts):
@@ -23,7 +23,7 @@ class Mended(page_in_node.PageScripts):
                 text = fault.before if fault.before.startswith("X:") else f"X:1\nK:C\n{fault.before}"
                 line, column = next(found[:2] for found in trial.fresh(text.encode(), [trial.program]).faults if found[2] == fault.name)
                 asked.append({"lines": text.split("\n"), "fault": [line - 1, column - 1, column, fault.name], "numbers": [0]})
-        mended = [json.loads(row) for row in self.node("page_mends.mjs", json.dumps(asked), ["--mend"])]
+        mended = [json.loads(row) for row in self.node("editor/page_fault_fixes.mjs", json.dumps(asked), ["--mend"])]
         self.assertEqual(len(mended), len(MENDED))
         for _, *lines in mended:
             self.assertEqual(trial.fresh("\n".join(lines).encode(), [trial.program]).faults, [])

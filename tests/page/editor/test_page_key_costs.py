@@ -7,4 +7,4 @@ class Scripts(page_in_node.PageScripts):
     """What its scripts do for a key, in node."""
 
     def test_scripts(self) -> None:
-        self.assert_ok("page_keys.mjs", 17)
+        self.assert_ok("editor/page_key_costs.mjs", 17)

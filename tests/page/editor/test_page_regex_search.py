@@ -5,4 +5,4 @@ import page_in_node
 
 class Scripts(page_in_node.PageScripts):
     def test_scripts(self) -> None:
-        self.assert_ok("page_expressions.mjs", 6)
+        self.assert_ok("editor/page_regex_search.mjs", 6)

@@ -2,7 +2,7 @@
 // started again. The same seed gives the same events.
 
 import { Book } from "./book_server.mjs";
-import { chances } from "./testing.mjs";
+import { chances } from "../testing.mjs";
 
 const NO_ANSWER = "it does not answer";
 

@@ -5,7 +5,7 @@
 import { readFileSync } from "node:fs";
 import { pathToFileURL } from "node:url";
 
-const { changed, difference, without } = await import(pathToFileURL(`${process.argv[2]}/rows.js`));
+const { changed, difference, without } = await import(pathToFileURL(`${process.argv[2]}/link/finding_rows.js`));
 
 function follow(rows, changes) {
   let now = rows;

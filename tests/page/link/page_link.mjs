@@ -5,14 +5,14 @@
 import { pathToFileURL } from "node:url";
 
 import { World } from "./link_world.mjs";
-import { sheetRoot } from "./stub_document.mjs";
-import { chances, run, same } from "./testing.mjs";
+import { sheetRoot } from "../stub_document.mjs";
+import { chances, run, same } from "../testing.mjs";
 
 const [folder, first, last] = process.argv.slice(2);
 const from = (name) => import(pathToFileURL(`${folder}/${name}.js`));
-const { Link } = await from("link");
-const { Sheet } = await from("sheet");
-const { Text } = await from("text");
+const { Link } = await from("link/host_link");
+const { Sheet } = await from("editor/text_sheet");
+const { Text } = await from("text/text");
 
 const QUIET = 60_000; // milliseconds in which all windows agree
 const LETTERS = [0x4e00, 0x6e00, 0x8e00]; // where the letters of each window begin: each is typed once

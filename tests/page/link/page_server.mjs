@@ -4,17 +4,17 @@
 import { pathToFileURL } from "node:url";
 
 import { Book, KEY, PORT, RUN, answerOf } from "./book_server.mjs";
-import { run, same } from "./testing.mjs";
+import { run, same } from "../testing.mjs";
 
 const folder = process.argv[2];
-const { Ancestry } = await import(pathToFileURL(`${folder}/ancestry.js`));
-const { withMoves } = await import(pathToFileURL(`${folder}/moves.js`));
-const { hunksOf } = await import(pathToFileURL(`${folder}/hunks.js`));
-const { Drafts } = await import(pathToFileURL(`${folder}/drafts.js`));
-const { Files } = await import(pathToFileURL(`${folder}/files.js`));
-const { Link } = await import(pathToFileURL(`${folder}/link.js`));
-const { Server } = await import(pathToFileURL(`${folder}/server.js`));
-const { Text } = await import(pathToFileURL(`${folder}/text.js`));
+const { Ancestry } = await import(pathToFileURL(`${folder}/link/version_ancestry.js`));
+const { withMoves } = await import(pathToFileURL(`${folder}/text/moved_lines.js`));
+const { hunksOf } = await import(pathToFileURL(`${folder}/text/myers_diff.js`));
+const { Drafts } = await import(pathToFileURL(`${folder}/link/draft_store.js`));
+const { Files } = await import(pathToFileURL(`${folder}/dialogs/book_saving.js`));
+const { Link } = await import(pathToFileURL(`${folder}/link/host_link.js`));
+const { Server } = await import(pathToFileURL(`${folder}/link/server_host.js`));
+const { Text } = await import(pathToFileURL(`${folder}/text/text.js`));
 const SECONDS = 300; // that a step may take, on a slow machine too
 const SILENCE = 8000; // milliseconds after which a server is lost
 const wait = globalThis.setTimeout;

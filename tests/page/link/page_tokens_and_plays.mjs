@@ -3,9 +3,9 @@
 
 import { pathToFileURL } from "node:url";
 
-import { run, same } from "./testing.mjs";
+import { run, same } from "../testing.mjs";
 
-const { ENTRY_KINDS, KINDS, Seen } = await import(pathToFileURL(`${process.argv[2]}/seen.js`));
+const { ENTRY_KINDS, KINDS, Seen } = await import(pathToFileURL(`${process.argv[2]}/link/tokens_and_plays.js`));
 
 if (process.argv[3] === "kinds") {
   console.log(KINDS.join());

@@ -5,18 +5,18 @@
 import { pathToFileURL } from "node:url";
 
 import { Book, KEY, PORT, answerOf } from "./book_server.mjs";
-import { sheetRoot } from "./stub_document.mjs";
-import { run, same } from "./testing.mjs";
+import { sheetRoot } from "../stub_document.mjs";
+import { run, same } from "../testing.mjs";
 
 const [folder, first, last] = process.argv.slice(2);
 const from = (name) => import(pathToFileURL(`${folder}/${name}.js`));
-const { Link } = await from("link");
-const { mergedLines, merging } = await from("merging");
-const { mendOf } = await from("mends");
-const { movedPlace, movedSelection } = await from("selection");
-const { Server } = await from("server");
-const { Sheet } = await from("sheet");
-const { Text } = await from("text");
+const { Link } = await from("link/host_link");
+const { mergedLines, merging } = await from("text/three_way_merge");
+const { mendOf } = await from("editor/fault_fixes");
+const { movedPlace, movedSelection } = await from("text/selection");
+const { Server } = await from("link/server_host");
+const { Sheet } = await from("editor/text_sheet");
+const { Text } = await from("text/text");
 
 const SECONDS = 300; // that a step may take, on a slow machine too
 const wait = globalThis.setTimeout;

@@ -17,7 +17,7 @@ class Scripts(page_in_node.PageScripts):
 
     def test_scripts(self) -> None:
         def tried(part: tuple[int, int]) -> None:
-            self.assert_ok("page_link.mjs", 8, *map(str, part))
+            self.assert_ok("link/page_link.mjs", 8, *map(str, part))
 
         with ThreadPoolExecutor(len(PARTS)) as pool:
             list(pool.map(tried, PARTS))

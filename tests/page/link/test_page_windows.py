@@ -13,7 +13,7 @@ class Scripts(page_in_node.PageScripts):
     def test_scripts(self) -> None:
         def tried(part: int) -> None:
             first, last = (part * PAIRS // PARTS + more for more in (0, PAIRS // PARTS - 1))
-            self.assert_ok("page_windows.mjs", 15, str(first), str(last))
+            self.assert_ok("link/page_windows.mjs", 15, str(first), str(last))
 
         with ThreadPoolExecutor(PARTS) as pool:
             list(pool.map(tried, range(PARTS)))

@@ -5,16 +5,16 @@
 import { readFileSync } from "node:fs";
 import { pathToFileURL } from "node:url";
 
-import { run, same } from "./testing.mjs";
+import { run, same } from "../testing.mjs";
 
 const folder = process.argv[2];
 const script = (name) => import(pathToFileURL(`${folder}/${name}.js`));
-const { Places } = await script("places");
-const { TuneWords } = await script("tune_words");
-const { Grid, beatOf } = await script("grid");
-const { lanesOf } = await script("lanes");
-const { Shades } = await script("shades");
-const { scoreOf } = await script("midi");
+const { Places } = await script("music/note_places");
+const { TuneWords } = await script("music/tune_text");
+const { Grid, beatOf } = await script("music/bars_and_beats");
+const { lanesOf } = await script("music/unison_lanes");
+const { Shades } = await script("music/voice_colours");
+const { scoreOf } = await script("music/midi_file");
 
 /** The score of a file: each track has notes from a tick to a tick, with a key. A track without notes is no voice. */
 function scoreWith(...tracks) {
@@ -184,6 +184,8 @@ const tests = {
 
   "lines are looped where they are played first"() {
     const places = tune("lines", [quarters(60, 62, 64, 65, 62, 64, 67)]);
+    const at = (line, column) => ({ line, column });
+    same([places.rangeBetween(at(3, 0), at(9, 0)), places.rangeBetween(at(0, 0), at(3, 0))], [[0, 3360], null]);
     same([places.rangeOf(3, 3), places.rangeOf(4, 4), places.rangeOf(5, 5), places.rangeOf(3, 5), places.rangeOf(0, 2)], [[0, 480], [480, 960], [960, 1920], [0, 3360], null]);
   },
 
@@ -239,6 +241,17 @@ const tests = {
     same([clicks(480), waltz.countIn(480).length], [["0!", "480", "960"], 1440]);
     same([clicks(0), waltz.countIn(0).length], [["0!", "480", "960", "1440!", "1920"], 2400]);
     same(new Grid([], 0, 480).countIn(0).length, 1920);
+  },
+
+  "a beat is that of the tempo, if the bar is some of those"() {
+    const reel = tune("reel", [quarters(60, 62, 64, 65, 67, 69, 71, 72)], inMeter(4, 4)).grid;
+    const tempos = [{ tick: 0, second: 0, each: 60 / 96 / 960 }, { tick: 1920, second: 1.25, each: 1 / 480 }];
+    same([0, 960, 1920].map((tick) => Math.round(reel.tempoAt(tick, { tempos }))), [96, 96, 60]);
+    same([reel.beatsOf(0), reel.beatsOf(1)], [[0, 960], [1920, 2400, 2880, 3360]]);
+    same(reel.countIn(0).clicks.map(({ at }) => at), [0, 960]);
+    same([960, 480, 720, 1920, 1440].map((told) => beatOf({ over: 4, under: 4 }, 480, told)), [960, 480, 480, 1920, 480]);
+    same([720, 240, 480, 960].map((told) => beatOf({ over: 6, under: 8 }, 480, told)), [720, 240, 720, 720]);
+    same([beatOf(null, 480, 960), beatOf(null, 480, null)], [960, 480]);
   },
 
   "voices on one key share its row"() {

@@ -5,9 +5,9 @@
 import { readFileSync } from "node:fs";
 import { pathToFileURL } from "node:url";
 
-const { Places } = await import(pathToFileURL(`${process.argv[2]}/places.js`));
-const { TuneWords } = await import(pathToFileURL(`${process.argv[2]}/tune_words.js`));
-const { scoreOf } = await import(pathToFileURL(`${process.argv[2]}/midi.js`));
+const { Places } = await import(pathToFileURL(`${process.argv[2]}/music/note_places.js`));
+const { TuneWords } = await import(pathToFileURL(`${process.argv[2]}/music/tune_text.js`));
+const { scoreOf } = await import(pathToFileURL(`${process.argv[2]}/music/midi_file.js`));
 
 for (const { lines, play, file } of JSON.parse(readFileSync(0, "utf8"))) {
   const score = scoreOf(Uint8Array.from(Buffer.from(file, "hex")).buffer);

@@ -3,11 +3,11 @@
 
 import { pathToFileURL } from "node:url";
 
-import { run, same } from "./testing.mjs";
+import { run, same } from "../testing.mjs";
 
 const folder = process.argv[2];
-const { scoreOf } = await import(pathToFileURL(`${folder}/midi.js`));
-const { Player } = await import(pathToFileURL(`${folder}/player.js`));
+const { scoreOf } = await import(pathToFileURL(`${folder}/music/midi_file.js`));
+const { Player } = await import(pathToFileURL(`${folder}/music/player.js`));
 
 // A quarter note of middle C, and one of D: half a second each.
 const FILE = "4D546864 00000006 0001 0002 01E0 4D54726B 00000004 00 FF2F00 4D54726B 00000016 00 903C40 8360 803C40 00 903E40 8360 803E40 00 FF2F00";
@@ -64,6 +64,7 @@ class Part {
 let started = [];
 globalThis.AudioContext = class {
   outputLatency = 0;
+  state = "running";
   destination = new Part();
   createGain = () => new Part();
   createBiquadFilter = () => new Part();
@@ -189,6 +190,125 @@ const tests = {
     same(player.outOf(0).gain.value, 0.5);
     player.stop();
     same(player.outOf(0).gain.value, 0.5);
+  },
+
+  async "what was stopped while its samples came does not sound, and what was begun again sounds once"() {
+    const player = new Player(), loads = [];
+    player.ended = () => {};
+    player.font = { load: () => new Promise((done) => loads.push(done)), sound: () => null };
+    started = [];
+    const first = player.play(score);
+    await null;
+    player.stop();
+    const second = player.play(score);
+    await null;
+    for (const done of loads) done();
+    await Promise.all([first, second]);
+    same(started.length, 1);
+    const touch = player.stop() ?? player.touch(score, score.notes.slice(0, 1));
+    await null;
+    const third = player.play(score, 480);
+    await null;
+    player.stop();
+    for (const done of loads) done();
+    await Promise.all([touch, third]);
+    same(started.length, 1);
+  },
+
+  async "a sound system that is interrupted stops the tune, and one that never begins is not waited for"() {
+    const { player } = await playing(), { audio } = player, refusals = [];
+    player.refused = () => refusals.push(player.playing);
+    audio.state = "interrupted";
+    audio.onstatechange();
+    same([player.playing, player.endings], [false, 1]);
+    audio.resume = () => new Promise(() => {});
+    later.length = 0;
+    const played = player.play(score);
+    same([player.playing, later.length], [true, 1]);
+    same([later[0].time >= 1000, later[0].time <= 5000], [true, true]);
+    later[0].act();
+    await played;
+    same([player.playing, player.endings, refusals], [false, 2, [false]]);
+    audio.resume = async () => (audio.state = "running");
+    await player.play(score);
+    same(player.playing, true);
+    player.stop();
+    audio.onstatechange();
+    same(player.endings, 3);
+  },
+
+  async "a telephone plays the tune although it is silenced for calls"() {
+    Object.defineProperty(globalThis, "navigator", { value: { audioSession: { type: "auto" } }, configurable: true });
+    const { player } = await playing();
+    same(navigator.audioSession.type, "playback");
+    player.stop();
+  },
+
+  async "a transposition moves the notes that are heard, and no others"() {
+    const { player, first } = await playing(), pitches = () => started.map(([part]) => Math.round(69 + 12 * Math.log2(part.frequency.value / 440)));
+    same(pitches(), [60]);
+    player.shift = 3;
+    at(player, first + 0.3);
+    same(pitches(), [60, 65]);
+    player.stop();
+    same(score.notes.map(({ key }) => key), [60, 62]);
+    player.shift = -61;
+    same([player.shifted({ key: 60 }).key, player.shifted({ key: 62 }).key, player.shifted({ key: 60, drum: true }).key], [0, 1, 60]);
+  },
+
+  async "a selection ends where it ends, and the next tune to its end"() {
+    started = [];
+    const player = new Player();
+    let endings = 0;
+    player.ended = () => (endings += 1);
+    await player.play(score, 0, null, 240);
+    const first = started[0][1];
+    at(player, first + 0.2);
+    at(player, first + 0.26);
+    same([started.length, endings], [1, 1]);
+    await player.play(score);
+    at(player, started[1][1] + 0.3);
+    same(started.length, 3);
+    player.stop();
+  },
+
+  async "the tunes of a set follow each other without a gap, and stop at once"() {
+    const { player, first } = await playing(), other = { ...score, notes: [...score.notes] }, heard = [];
+    player.turned = (one) => heard.push(one === other);
+    player.queue = [score, other];
+    for (let time = 0; time < 2.9; time += 0.05) at(player, first + time);
+    same(started.map(([, time]) => Math.round(1000 * (time - first))), [0, 500, 1000, 1500, 2000, 2500]);
+    same([heard, player.queue, player.endings], [[true], [], 0]);
+    at(player, first + 3.01);
+    same(player.endings, 1);
+    const again = await playing();
+    again.player.queue = [score];
+    again.player.stop();
+    same([again.player.queue, again.player.endings], [[], 1]);
+  },
+
+  async "a change of a tune of a set is heard in its later rounds"() {
+    const { player, first } = await playing(), changed = { ...score, bars: [0, 960] };
+    player.queue = [score, score];
+    player.change(changed);
+    same([player.queue[0] === changed, player.queue[1] === changed], [true, true]);
+    for (let time = 0; time < 1.4; time += 0.05) at(player, first + time);
+    same([started.length, player.queue.length, player.score === changed], [4, 1, true]);
+    player.stop();
+  },
+
+  async "a count-in has its numbers, from 1 on in each bar"() {
+    started = [];
+    const player = new Player(), beats = [0, 480, 960, 1440].map((tick, n) => ({ at: tick, isFirst: n % 3 === 0 }));
+    player.ended = () => {};
+    await player.play(score, 0, { length: 1920, clicks: beats });
+    const first = started[0][1], numbers = [-0.01, 0, 0.4, 0.5, 1.1, 1.5, 1.9, 2.1].map((time) => {
+      at(player, first + time);
+      return player.counted;
+    });
+    same(numbers, [0, 1, 1, 2, 3, 1, 1, 0]);
+    player.stop();
+    same(player.counted, 0);
   },
 
   async "a loop is heard later too"() {

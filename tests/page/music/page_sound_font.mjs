@@ -3,11 +3,11 @@
 
 import { pathToFileURL } from "node:url";
 
-import { run, same } from "./testing.mjs";
+import { run, same } from "../testing.mjs";
 
 const from = (name) => import(pathToFileURL(`${process.argv[2]}/${name}.js`));
-const { Font } = await from("font");
-const { isIn, soundSample } = await from("sampled");
+const { Font } = await from("music/sound_font");
+const { isIn, soundSample } = await from("music/sampled_sounds");
 
 /** A value, and what it becomes when. */
 class Param {

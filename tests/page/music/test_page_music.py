@@ -18,7 +18,7 @@ FIELDS = ["[K:G]", "[K:Fm]", "[M:6/8]", "[L:1/4]", "[V:1]", "[V:2]", "[K:clef=ba
 
 class Scripts(page_in_node.PageScripts):
     def test_scripts(self) -> None:
-        self.assert_ok("page_music.mjs", 6)
+        self.assert_ok("music/page_music.mjs", 6)
 
 
 class Places(page_in_node.PageScripts):
@@ -37,7 +37,7 @@ class Places(page_in_node.PageScripts):
         self.session.set_text(book)
         asked = [(number, tune) for number, tune in enumerate(tunes, 1) if f"{number}.mid" in files]
         words = [{"lines": book.split("\n"), "play": play_of(self.session, number), "file": files[f"{number}.mid"].hex()} for number, _ in asked]
-        told = [json.loads(line) for line in self.node("page_places.mjs", json.dumps(words))]
+        told = [json.loads(line) for line in self.node("music/page_note_places.mjs", json.dumps(words))]
         self.assertEqual(len(told), len(asked))
         for (_, tune), found in zip(asked, told):
             self.assertEqual((found["whole"], found["notes"]), (found["voices"], found["all"]), "\n".join(tune))

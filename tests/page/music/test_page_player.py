@@ -5,4 +5,4 @@ import page_in_node
 
 class Scripts(page_in_node.PageScripts):
     def test_scripts(self) -> None:
-        self.assert_ok("page_sound.mjs", 6)
+        self.assert_ok("music/page_player.mjs", 6)

@@ -3,7 +3,7 @@
 
 import { pathToFileURL } from "node:url";
 
-import { run, same } from "./testing.mjs";
+import { run, same } from "../testing.mjs";
 
 /** An element, as much of it as the scripts use. */
 class Element {
@@ -65,8 +65,8 @@ const wait = globalThis.setTimeout;
 globalThis.setTimeout = (act, time) => wait(act, time / 20);
 
 const folder = process.argv[2];
-const { Score, tuneOf } = await import(pathToFileURL(`${folder}/score.js`));
-const { laidOut } = await import(pathToFileURL(`${folder}/score_tree.js`));
+const { Score, tuneOf } = await import(pathToFileURL(`${folder}/score/score_view.js`));
+const { laidOut } = await import(pathToFileURL(`${folder}/score/score_elements.js`));
 
 const place = (row, column, kind = "note") => ["place", { row, column, kind, x: "1", y: "2", width: "3", height: "4" }];
 const image = (...inside) => ["svg", { width: "9", height: "9" }, ...inside];
@@ -121,7 +121,7 @@ const tests = {
     const lines = ["X:1", "K:C", "^C,2[CE]/2{g}z2"];
     score.see({ first: 5, lines, header: ["L:1/8"] });
     await rest();
-    same(asked[0].question, { header: ["L:1/8"], tune: lines, width: 600 });
+    same(asked[0].question, { header: ["L:1/8"], tune: lines, width: 600, transpose: 0 });
     asked[0].done({ images: [image(place(2, 0), ["g", {}, place(2, 4)], place(2, 11, "grace"), place(2, 13, "rest"))] });
     await rest();
     const told = () => score.notes.map(({ line, column, length, kind }) => [line, column, length, kind]);
@@ -186,35 +186,35 @@ const tests = {
 
   async "a drawn tune with faults is doubted, and no other one"() {
     const { score, asked } = scored();
-    const told = () => score.view.children.map(({ className }) => className).filter(Boolean);
-    let faults = 1;
+    let faults = 1, isDoubtful = false;
+    score.doubted = (is) => (isDoubtful = is);
     score.hasFaults = ({ first }) => first === 5 && faults > 0;
     score.see({ first: 5, lines: ["X:1", "K:C", "C"], header: [] });
     score.doubt();
     await rest();
-    same(told(), []);
+    same(isDoubtful, false);
     asked[0].done({ images: [image(place(2, 0))] });
     await rest();
-    same(told(), ["doubt"]);
+    same(isDoubtful, true);
     score.doubt();
-    same([told(), score.view.children.at(-1).className], [["doubt"], "doubt"]);
+    same(isDoubtful, true);
     faults = 0;
     score.doubt();
-    same(told(), []);
+    same(isDoubtful, false);
     faults = 1;
     score.doubt();
     score.see({ first: 9, lines: ["X:2", "K:C", "C"], header: [] });
     score.doubt();
-    same(told(), ["doubt"]);
+    same(isDoubtful, true);
     await rest();
     asked[1].done({ images: [image(place(2, 0))] });
     await rest();
-    same(told(), []);
+    same(isDoubtful, false);
     score.see({ first: 5, lines: ["X:1", "K:C"], header: [] });
     await rest();
     asked[2].done({ why: "none" });
     await rest();
-    same(told(), ["why"]);
+    same([isDoubtful, score.view.children.map(({ className }) => className).filter(Boolean)], [false, ["why"]]);
   },
 
   async "a page without a tune is printed as it is"() {

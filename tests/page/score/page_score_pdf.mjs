@@ -3,10 +3,10 @@
 
 import { pathToFileURL } from "node:url";
 
-import { run, same } from "./testing.mjs";
+import { run, same } from "../testing.mjs";
 
 globalThis.document = { addEventListener() {} };
-const { listName, storedWords } = await import(pathToFileURL(`${process.argv[2]}/score_pdf.js`));
+const { listName, storedWords } = await import(pathToFileURL(`${process.argv[2]}/score/score_pdf.js`));
 
 const ROWS = [3, 5, 8, 9, 11, 20, 21].map((number, n) => [n, number, "", true]);
 

@@ -12,10 +12,10 @@ from typing import Any, Optional
 from unittest import mock
 
 import browser
-import test_page
+import served_page
 import test_page_in_browser
-from abc2midi_live_clients.rows import Json
-from abc2midi_live_clients.scorer import INSTALL
+from abc2midi_live_clients.common.json_object import Json
+from abc2midi_live_clients.page.score.scorer import INSTALL
 
 DRAWS = shutil.which("abcm2ps")
 TUNE = 'X:1\nT:Scale\nM:3/4\nL:1/4\nK:C\nCEG|"é𝄞"c2 z|\n'
@@ -23,7 +23,11 @@ EVIL = '<script>window.evil = 1</script><img src=x onerror="window.evil = 1"> --
 NOTES = "return [...document.querySelectorAll('#score .score-place')].map(({ note }) => [note.line, note.column, note.length, note.kind])"
 HERE = "return [...document.querySelectorAll('#score .score-here')].map(({ note }) => [note.line, note.column])"
 WHY = "return document.querySelector('#score .why')?.textContent"
-DOUBT = "return document.querySelector('#score .doubt')?.textContent"
+GONE = """
+const area = document.querySelector("textarea");
+return [area.selectionStart, document.activeElement === area, document.getElementById("status").textContent];
+"""
+DOUBT = "const one = document.getElementById('doubt'); return one.checkVisibility() ? one.title : null"
 CARET = """
 const area = document.querySelector("textarea");
 const before = area.value.slice(0, area.selectionStart).split("\\n");
@@ -84,7 +88,7 @@ return [...document.querySelectorAll("body *")].filter((one) => {
 """
 
 
-class Programs(test_page.Page):
+class Programs(served_page.Page):
     """A server that finds another `abcm2ps`, or none."""
 
     drawing: Optional[str] = None  # the script of an `abcm2ps`; empty for none
@@ -247,12 +251,17 @@ class Staves(test_page_in_browser.Browser):
         self.assertIsNone(self.run_script(WHY))
 
     def test_a_tune_with_faults(self) -> None:
-        """A line below its score says that the sound may differ, till the faults are gone; on paper it is not."""
+        """A sign above its score says that the sound may differ, till the faults are gone. It takes no room of the score, and is not on paper.
+        A click on it goes to the fault."""
         self.type("X:1\nK:C\nC -D")
         self.notes((2, 0, 1, "note"), (2, 3, 1, "note"))
         self.wait(lambda: self.run_script(DOUBT) == "This tune has faults. The score may differ from what you hear.")
         with self.media(media="print"):
-            self.assertFalse(self.run_script("return document.querySelector('#score .doubt').checkVisibility()"))
+            self.assertIsNone(self.run_script(DOUBT))
+        self.assertEqual(self.run_script("return document.getElementById('score').innerText.includes('faults')"), False)
+        self.driver.find_element("id", "doubt").click()
+        self.assertEqual(self.run_script(GONE), [len("X:1\nK:C\nC "), True, "This tune has faults. The score may differ from what you hear."])
+        self.type("\ue010")
         self.type("\ue003\ue003")
         self.notes((2, 0, 1, "note"))
         self.wait(lambda: self.run_script(DOUBT) is None)

@@ -4,7 +4,7 @@
 import { readFileSync } from "node:fs";
 import { pathToFileURL } from "node:url";
 
-const { BookText } = await import(pathToFileURL(`${process.argv[2]}/book_text.js`));
+const { BookText } = await import(pathToFileURL(`${process.argv[2]}/static/book_text.js`));
 
 /** A text in words. Halves of pairs do not go through a stream of UTF-8, so lines are lists of units. */
 function told(text) {

@@ -4,5 +4,5 @@
 import { readFileSync } from "node:fs";
 import { pathToFileURL } from "node:url";
 
-const { spanOf } = await import(pathToFileURL(`${process.argv[2]}/fault_spans.js`));
+const { spanOf } = await import(pathToFileURL(`${process.argv[2]}/static/fault_spans.js`));
 console.log(JSON.stringify(JSON.parse(readFileSync(0, "utf-8")).map((asked) => spanOf(...asked))));

@@ -26,7 +26,7 @@ TUNE = "X:1\nT:Scale\nM:2/4\nL:1/4\nQ:1/4=60\nK:C\nCD|EF|\nGA|Bc|\n"
 KEEP = """
 const [book, done] = arguments;
 const keep = async () => {
-  const { BookStore, newName } = await import("./book_store.js");
+  const { BookStore, newName } = await import("./static/book_store.js");
   const store = await BookStore.open(location.pathname), data = new TextEncoder().encode(book);
   await store.keep({ id: newName(), name: "", title: "", tunes: 0, unsaved: true }, { data, disk: null, handle: null });
 };
@@ -200,7 +200,7 @@ class StaticBrowser(common.Room):
     def kept_texts(self) -> list[str]:
         """The texts of all books that the browser keeps, in the order of the alphabet."""
         script = """
-        const { BookStore } = await import("./book_store.js");
+        const { BookStore } = await import("./static/book_store.js");
         const store = await BookStore.open(location.pathname), books = [];
         for (const { id } of await store.books()) books.push(new TextDecoder().decode((await store.book(id)).data));
         store.database.close();
@@ -249,16 +249,20 @@ class StaticBrowser(common.Room):
         self.wait(path.exists)
         return path.read_bytes()
 
-    def upload(self, name: str, data: bytes) -> None:
-        """Opens a file by the dialog."""
+    def send(self, name: str, data: bytes) -> None:
+        """Picks a file in the dialog."""
         path = self.folder / name
         path.write_bytes(data)
         self.click("open")
         self.driver.find_element("id", "upload").send_keys(str(path))
+
+    def upload(self, name: str, data: bytes) -> None:
+        """Opens a file by the dialog."""
+        self.send(name, data)
         self.says("name", name)
         self.ready()
 
     def sentence(self, name: str) -> str:
         """What is wrong and what to do instead, of a fault."""
-        rows = json.loads((common.TOP / "python/abc2midi_live_clients/faults.json").read_text("utf-8"))
+        rows = json.loads((common.TOP / "python/abc2midi_live_clients/common/faults.json").read_text("utf-8"))
         return next(f"{row['wrong']} {row['instead']}".replace("`", "") for row in rows if row["name"] == name)

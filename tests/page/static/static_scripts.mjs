@@ -4,7 +4,7 @@
 import { resolveObjectURL } from "node:buffer";
 import { pathToFileURL } from "node:url";
 
-import { chances, run, same } from "../clients/testing.mjs";
+import { chances, run, same } from "../testing.mjs";
 
 /** A stand-in for the browser's locks. */
 class Locks {
@@ -37,18 +37,18 @@ Object.defineProperty(globalThis, "navigator", { value: { locks: new Locks() } }
 
 const folder = process.argv[2];
 const from = (name) => import(pathToFileURL(`${folder}/${name}.js`));
-const { BookLock } = await from("book_lock");
-const { BookStore, ChangedElsewhere } = await from("book_store");
-const { BookText } = await from("book_text");
-const { CompiledBook } = await from("compiled_book");
-const { Files } = await from("files");
-const { Keeper } = await from("keeper");
-const { Link } = await from("link");
-const { PickedFile, pickToOpen, pickToSave } = await from("picked_file");
-const { changed } = await from("rows");
-const { linkOf, textIn } = await from("share_link");
-const { Text } = await from("text");
-const { WorkerBook } = await from("worker_book");
+const { BookLock } = await from("static/book_lock");
+const { BookStore, ChangedElsewhere } = await from("static/book_store");
+const { BookText } = await from("static/book_text");
+const { CompiledBook } = await from("static/compiled_book");
+const { Files } = await from("dialogs/book_saving");
+const { Keeper } = await from("static/book_keeper");
+const { Link } = await from("link/host_link");
+const { PickedFile, pickToOpen, pickToSave } = await from("static/picked_file");
+const { changed } = await from("link/finding_rows");
+const { linkOf, textIn } = await from("static/share_link");
+const { Text } = await from("text/text");
+const { WorkerBook } = await from("static/worker_book");
 
 const bytes = (text) => new TextEncoder().encode(text);
 const text = (data) => new TextDecoder().decode(data);
@@ -469,7 +469,7 @@ await run({
     const file = { name: "b.abc", read: async () => file.content, write: async (data) => (file.content = data), content }, names = [];
     book.renamed = () => names.push(book.name);
     await book.replace({ name: file.name, data: content, file });
-    same([window.lines, link.isUnsaved, link.known.letters, names], [["X:2", "T:café", "C", ""], false, "latin-1", ["b.abc"]]);
+    same([window.lines, link.isUnsaved, link.known.letters, names], [["X:2", "T:café", "C", ""], false, "windows-1252", ["b.abc"]]);
     await type(2, 3, "D");
     await link.file("save");
     same(Buffer.from(file.content).toString("hex"), Buffer.from("X:2\r\nT:caf\xe9\r\nD\r\n", "latin1").toString("hex"));
@@ -589,18 +589,18 @@ await run({
     same(await book.ask("font"), { name: "", isPlain: true });
   },
 
-  async "a book in Latin-1 stays so, and a save in UTF-8 makes it UTF-8"() {
-    const content = Uint8Array.from([...bytes("X:1\nT:caf"), 0xe9, 10]), file = new File("a.abc", "");
+  async "a book in Windows-1252 stays so, and a save in UTF-8 makes it UTF-8"() {
+    const content = Uint8Array.from([...bytes("X:1\nT:"), 0x93, ...bytes("caf"), 0xe9, 0x94, 10]), file = new File("a.abc", "");
     Object.assign(file, { read: async () => file.content, write: async (data) => (file.content = data), content });
     const book = new WorkerBook("picked", async () => file, new CompiledBook(async () => new Session()));
     book.begin({ id: "one", name: "a.abc", data: content, disk: content, file });
     const { letters, lines, version } = await book.ask("book");
-    same([letters, lines], ["latin-1", ["X:1", "T:café", ""]]);
-    const change = await book.ask("edit", { version, window: "w", start: 1, stop: 2, lines: ["T:cafés"] });
+    same([letters, lines], ["windows-1252", ["X:1", "T:“café”", ""]]);
+    const change = await book.ask("edit", { version, window: "w", start: 1, stop: 2, lines: ["T:“cafés”"] });
     await book.ask("save", { version: change.version });
-    same(Buffer.from(file.content).toString("hex"), Buffer.from("X:1\nT:caf\u00e9s\n", "latin1").toString("hex"));
+    same(Buffer.from(file.content).toString("hex"), Buffer.from("X:1\nT:\x93caf\u00e9s\x94\n", "latin1").toString("hex"));
     await book.ask("save-in-utf-8", { version: change.version });
-    same([text(file.content), (await book.ask("state")).letters], ["X:1\nT:cafés\n", "utf-8"]);
+    same([text(file.content), (await book.ask("state")).letters], ["X:1\nT:“cafés”\n", "utf-8"]);
   },
 
   async "a tab that answers stores its book before it gives it up, and one that does not answer loses it"() {

@@ -34,7 +34,32 @@ await new Promise((done) => setTimeout(done)); // the policy counts for what no 
 try { return new Function("return 1")(); } catch (error) { return error.name; }
 """
 INLINE = "const script = document.createElement('script'); script.textContent = 'window.inline = 1'; document.body.append(script);"
+LACKING = {
+    "findLast of lists": "delete Array.prototype.findLast",
+    "the selector :has": "CSS.supports = (words) => !words.includes(':has')",
+    "ARIA properties": "delete Element.prototype.ariaSelected",
+}  # as older browsers are
 NO_STORE = "Object.defineProperty(globalThis, 'indexedDB', { value: { open() { throw new Error('none'); } } })"
+SLOW_STORE = "Object.defineProperty(globalThis, 'indexedDB', { value: { open: () => ({}) } })"  # it does not answer
+ASKED_TO_KEEP = """
+window.asked = [];
+const { transaction } = IDBDatabase.prototype;
+IDBDatabase.prototype.transaction = function (names, mode, options) {
+  if (mode === "readwrite") asked.push(`${mode} ${options?.durability}`);
+  return transaction.call(this, names, mode, options);
+};
+if (globalThis.StorageManager) StorageManager.prototype.persist = async () => asked.push("persist"); // an empty tab has none
+"""
+DEAD_STORE = """
+IDBDatabase.prototype.transaction = () => { throw new DOMException("the store is damaged", "UnknownError"); };
+"""  # it opens, and fails then
+ASKS_TO_STAY = """
+window.asksToStay = true;
+const event = new Event("beforeunload", { cancelable: true });
+dispatchEvent(event);
+window.asksToStay = false;
+return event.defaultPrevented;
+"""
 NO_CLIPBOARD = "navigator.clipboard.writeText = async () => { throw new DOMException('refused', 'NotAllowedError'); }; document.activeElement.blur();"
 SELECTED = "const { id, value, selectionStart, selectionEnd } = document.activeElement; return [id, value?.slice(selectionStart, selectionEnd)]"
 ROOM_BESIDE_THE_ROLL = "return document.querySelector('.views').clientWidth - document.querySelector('.stage').offsetWidth"
@@ -181,19 +206,70 @@ class Writing(StaticBrowser):
         self.wait(lambda: "There is a newer version" in self.text("notice"))
         self.assertEqual(self.value_of(MODULE_SIZE), len(module))
         self.run_script("window.isOld = true")
-        self.answer("Load it")
-        self.wait(lambda: self.run_script("return !window.isOld"))
+        first = self.driver.current_window_handle
+        self.open_tab()
+        self.wait(lambda: self.run_script(ELSEWHERE))
+        self.click("new-book")
+        self.wait(lambda: not self.run_script(ELSEWHERE))
         self.ready()
+        self.type("X:8\n")
+        self.shows("X:8\n")
+        self.run_script("window.isOld = true")
+        other = self.driver.current_window_handle
+        self.turn_to(first)
+        self.answer("Load it")
+        for tab in (other, first):  # all tabs are of the newer page then, and have their texts
+            self.turn_to(tab)
+            self.wait(lambda: self.run_script("return !window.isOld"))
+            self.ready()
+            if tab == other:
+                self.shows("X:8\n")
         self.assertEqual(self.value_of(MODULE_SIZE), len(module) + len(SECTION))
         self.wait(lambda: len(self.titles()) == 4)
 
+    def test_a_long_book_is_not_called_a_page_that_does_not_come(self) -> None:
+        """The scripts of the page are there, so nobody is asked to load it again."""
+        self.driver.execute_cdp_cmd("Page.addScriptToEvaluateOnNewDocument", {"source": SLOW_STORE})
+        self.driver.get("about:blank")
+        self.driver.get(f"{self.origin}/")
+        self.wait(lambda: self.text("loading") == "The book is being opened. A long one takes some seconds.")
+        self.assertTrue(self.run_script("return !document.getElementById('loading').hidden"))
+
+    def test_the_caret_outlives_a_reload(self) -> None:
+        """In a long book too."""
+        self.paste("".join(f"% {number}\n" for number in range(1000)))
+        self.wait(lambda: self.kept_texts() and self.kept_texts()[0].endswith("% 999\n"))
+        self.press("\ue010", CONTROL)
+        self.press("\ue013")
+        self.says("place", "Line 1000, column 1")
+        self.press("\ue014\ue014")
+        self.says("place", "Line 1000, column 3")
+        self.reload()
+        self.says("place", "Line 1000, column 3")
+        self.type("new ")
+        self.wait(lambda: self.kept_texts()[0].endswith("% 998\n% new 999\n"))
+
+    def test_what_is_typed_is_on_the_disk(self) -> None:
+        """The browser is asked to keep it through a loss of power, and not to drop it when it lacks room."""
+        self.driver.execute_cdp_cmd("Page.addScriptToEvaluateOnNewDocument", {"source": ASKED_TO_KEEP})
+        self.load()
+        self.assertEqual(self.run_script("return asked"), [])
+        self.write()
+        self.assertEqual(sorted(set(self.run_script("return asked"))), ["persist", "readwrite strict"])
 
     def test_a_browser_without_the_web_assembly_of_the_module(self) -> None:
         """It gets one sentence, which Escape does not close."""
         self.driver.get(f"{self.origin}/?unable")
-        self.wait(lambda: self.text("unable-words").startswith("This browser cannot run the page: its WebAssembly is missing or too old."))
+        self.wait(lambda: self.text("unable-words").startswith("This browser cannot run the page: it lacks the WebAssembly of today. Use "))
         self.press(ESCAPE)
         self.wait(lambda: self.run_script("return document.getElementById('unable').open"))
+        for feature in LACKING:
+            with self.subTest(feature):
+                script = self.driver.execute_cdp_cmd("Page.addScriptToEvaluateOnNewDocument", {"source": LACKING[feature]})
+                self.driver.get("about:blank")
+                self.driver.get(f"{self.origin}/")
+                self.wait(lambda: self.text("unable-words").startswith(f"This browser cannot run the page: it lacks {feature}. Use "))
+                self.driver.execute_cdp_cmd("Page.removeScriptToEvaluateOnNewDocument", script)
 
 
 class Files(StaticBrowser):
@@ -226,7 +302,9 @@ class Files(StaticBrowser):
         self.load("?downloads")
         self.type("X:9\n")
         book = b"X:1\r\nT:Caf\xe9\r\nK:C\r\nC|\r\n"
-        self.upload("old.abc", book)
+        self.send("old.abc", book)
+        self.answer("Drop the text")
+        self.says("name", "old.abc")
         self.lists("1Caf\u00e9")
         self.wait(self.is_saved)
         self.save_by_key()
@@ -234,6 +312,46 @@ class Files(StaticBrowser):
         self.caret(3, 0)
         self.press("z", CONTROL)
         self.shows("X:9\n")
+
+    def test_text_that_is_nowhere_else_is_not_dropped_without_a_question(self) -> None:
+        """The warning stays till it is answered. A new book, another file, another address and a closed tab ask first."""
+        self.driver.execute_cdp_cmd("Page.addScriptToEvaluateOnNewDocument", {"source": NO_STORE})
+        self.load("?downloads")
+        self.assertFalse(self.run_script(ASKS_TO_STAY))
+        self.type("X:9\nK:C\nC")
+        self.wait(lambda: "This browser keeps nothing for this page: save before you close it." in self.text("notice"))
+        self.wait(self.is_unsaved)
+        self.assertTrue(self.run_script(ASKS_TO_STAY))
+        self.answer("Decide later")
+        for leaves in ("document.getElementById('new-book').click()", "document.querySelector('.example').click()", "location.hash = '#abc=WDo5Cks6Qwo'"):
+            self.run_script(leaves)
+            self.wait(lambda: "The text is in no file" in self.text("notice"))
+            self.assertEqual(self.shown(), "X:9\nK:C\nC")
+            self.answer("Cancel")
+        self.click("new-book")
+        self.answer("Download")
+        self.assertEqual(self.downloaded("book.abc"), b"X:9\nK:C\nC")
+        self.wait(self.is_saved)
+        self.assertFalse(self.run_script(ASKS_TO_STAY))
+        self.click("new-book")
+        self.shows("")
+
+    def test_a_store_that_opens_and_fails(self) -> None:
+        """The page has a book there too, and warns. If the store fails later, the warning says why."""
+        self.write()
+        self.run_script(DEAD_STORE)
+        self.type("C")
+        self.wait(lambda: "This browser does not keep the text (the store is damaged): save it." in self.text("notice"))
+        self.assertTrue(self.run_script(ASKS_TO_STAY))
+        self.click("new-book")
+        self.wait(lambda: "The text is in no file" in self.text("notice"))
+        self.driver.execute_cdp_cmd("Page.addScriptToEvaluateOnNewDocument", {"source": DEAD_STORE})
+        self.load()
+        self.wait(lambda: "This browser keeps nothing for this page: save before you close it." in self.text("notice"))
+        self.click("open")
+        self.wait(lambda: self.run_script("return document.getElementById('books').open"))
+        self.run_script("document.querySelector('.example').click()")
+        self.wait(lambda: len(self.titles()) == 4)
 
     def test_a_picked_file(self) -> None:
         """A save writes it, after a reload too. What another program wrote is taken if nothing is unsaved; else the page asks, and
@@ -279,6 +397,22 @@ class Files(StaticBrowser):
         self.press("s", CONTROL, SHIFT)
         self.says("name", "second.abc")
         self.assertEqual((self.value_of(CONTENT, "second.abc"), self.run_script("return suggested")), (TUNE, "first.abc"))
+
+    def test_downloads_where_files_are_picked(self) -> None:
+        """A button offers them: the text, the sound and the MIDI files. Where a file cannot be picked, 'Save as' does."""
+        self.write()
+        self.wait(lambda: "4 bars" in self.run_script("return document.getElementById('roll').getAttribute('aria-label')"))
+        self.click("download")
+        self.assertEqual(self.text("copy-words"), "Downloads the text.")
+        self.assertEqual([self.is_seen(name) for name in ("copy-save", "copy-download", "tune-sound")], [False, True, True])
+        self.click("copy-download")
+        self.assertEqual(self.downloaded("book.abc"), TUNE.encode())
+        self.assertTrue(self.is_unsaved())
+        self.click("download")
+        self.click("tune-sound")
+        self.assertEqual(self.downloaded("1 Scale.wav")[:4], b"RIFF")
+        self.load("?downloads")
+        self.assertFalse(self.is_seen("download"))
 
     def test_a_new_book_leaves_the_old_one_in_the_list(self) -> None:
         """A book that is in no file is forgotten at the second click. Whoever hears the page hears why, too."""
@@ -337,8 +471,9 @@ class Sharing(StaticBrowser):
         self.run_script("location.hash = '#abc=WDo5Cks6Qwo'")
         self.shows("X:9\nK:C\n")
         self.load("#abc-z=q8g")
-        self.says("status", "The tune in this link cannot be read: it is not whole.")
+        self.wait(lambda: "The tune in this link cannot be read: it is not whole." in self.text("notice"))
         self.shows(changed)
+        self.answer("Close")
         self.assertEqual(self.kept_texts(), sorted([book, changed]))
 
     def test_a_tune_that_is_too_long(self) -> None:

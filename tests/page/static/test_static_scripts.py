@@ -4,6 +4,7 @@ from __future__ import annotations
 
 import json
 import random
+import re
 import shutil
 import subprocess
 import sys
@@ -14,12 +15,14 @@ from typing import Any
 import common
 
 sys.path.append(str(common.TOP / "python"))
-from abc2midi_live_clients.places import LinePlaces, end_of  # noqa: E402
-from abc2midi_live_clients.texts import Text, is_utf8  # noqa: E402
+from abc2midi_live_clients.common.line_places import LinePlaces  # noqa: E402
+from abc2midi_live_clients.common.faults import end_of  # noqa: E402
+from abc2midi_live_clients.page.book_text import Text, is_utf8  # noqa: E402
 
+HERE = Path(__file__).resolve().parent
 Units = list[int]  # the UTF-16 units of a line
-LETTERS = [b"C", b"D2", b"|", b" ", b"\t", b"\r", b"\x00", b"\x1f", b"\xe9", b"\xff\xfe", "é".encode(), "€".encode(), "𝄞".encode(), b"[K:D]", b"X:1"]
-TYPED = ["C", "D2", "|", " ", "é", "€", "𝄞", "\udc00", "\udc1f", "\udcff", "\ud834", "ÿ", "\t"]
+LETTERS = [b"C", b"D2", b"|", b" ", b"\t", b"\r", b"\x00", b"\x1f", b"\xe9", b"\xff\xfe", b"\x93\x81", "é".encode(), "€".encode(), "𝄞".encode(), b"[K:D]", b"X:1"]
+TYPED = ["C", "D2", "|", " ", "é", "€", "𝄞", "\udc00", "\udc1f", "\udcff", "\ud834", "ÿ", "“", "\x93", "\t"]
 SIGNS = ["M:4/4", "%%MIDI program 1", "[K:D]", "[CEG]2", "^f'2", "(3abc", "|[1", "<<", "é", "𝄞", "\u2028", " ", "&", '"Am"', "A:|"]
 NAMES = ["BadByte", "Unclosed", "BadProgram", "BadMeter", "LooseTie"]
 
@@ -67,13 +70,13 @@ class StaticScripts(common.Room):
 
     def answers(self, script: str, asked: Any) -> list[Any]:
         """The lines that a script of the page answers, as objects."""
-        words = ["node", str(common.TESTS / script), str(self.page)]
+        words = ["node", str(HERE / script), str(self.page)]
         ran = subprocess.run(words, input=json.dumps(asked), capture_output=True, text=True, timeout=common.SECONDS)
         self.assertEqual(ran.returncode, 0, ran.stderr)
         return [json.loads(line) for line in ran.stdout.splitlines()]
 
     def test_the_book_and_links(self) -> None:
-        self.assert_ok(["node", str(common.TESTS / "static_scripts.mjs"), str(self.page)], 38)
+        self.assert_ok(["node", str(HERE / "static_scripts.mjs"), str(self.page)], 38)
 
     def test_random_edits_leave_the_bytes_that_the_served_page_leaves(self) -> None:
         chance = random.Random(1)
@@ -95,7 +98,7 @@ class StaticScripts(common.Room):
                 seen.append(told(text))
             asked.append({"book": book.hex(), "edits": edits})
             wanted.append([*seen, told(text.in_utf8())])
-        found = self.answers("page_texts.mjs", asked)
+        found = self.answers("book_texts.mjs", asked)
         self.assertEqual(len(found), len(wanted))
         for question, answer, expected in zip(asked, found, wanted):
             with self.subTest(question):
@@ -112,7 +115,7 @@ class StaticScripts(common.Room):
             column = column_of(line, at)
             wanted.append(LinePlaces(line).span(column, end_of(line.encode(), column, name, columns)))
             asked.append([line, unit_of(line, at), name, [n for start, end in tokens for n in (unit_of(line, start), unit_of(line, end), 1, 0)]])
-        self.assertEqual(self.answers("page_spans.mjs", asked), [wanted])
+        self.assertEqual(self.answers("fault_spans.mjs", asked), [wanted])
 
     def test_the_same_sources_make_the_same_page(self) -> None:
         other = self.folder / "other"
@@ -122,6 +125,15 @@ class StaticScripts(common.Room):
         self.assertEqual(names, {path.relative_to(other) for path in other.rglob("*") if path.is_file()})
         for name in sorted(names):
             self.assertEqual((self.page / name).read_bytes(), (other / name).read_bytes(), name)
+
+    def test_a_browser_asks_for_all_modules_at_once(self) -> None:
+        """All but those that a worker loads, the one without a value, and the script that is no module."""
+        asked = re.findall(r'<link rel="modulepreload" href="(.*)">', (self.page / "index.html").read_text())
+        self.assertEqual((asked[0], len(asked)), ("static/static_page.js", len(set(asked))))
+        scripts = {path.relative_to(self.page).as_posix() for path in self.page.rglob("*.js")}
+        others = {"abc2midi-live/worker_body.js", "editor/search_worker.js", "link/book_host.js", "service_worker.js", "shell/reload_on_failure.js"}
+        self.assertEqual(scripts - set(asked), others)
+        self.assertLessEqual(set(asked), scripts)
 
     def test_a_folder_with_other_files_is_left_alone(self) -> None:
         precious = self.folder / "precious"
@@ -140,8 +152,8 @@ class StaticTypes(common.Room):
         common.make_page(page, module=None)
         for path in (common.TOP / "javascript").glob("*.d.ts"):
             shutil.copy(path, page / "abc2midi-live")
-        own = sorted(path.name for path in (common.TOP / "javascript/page").glob("*.js"))
+        own = [*sorted((page / "static").glob("*.js")), page / "service_worker.js"]
         words = ["tsc", "--allowJs", "--checkJs", "--strict", "--noUnusedLocals", "--noUnusedParameters", "--noEmit", "--skipLibCheck"]
         words += ["--target", "es2022", "--module", "es2022", "--moduleResolution", "node", "--lib", "es2022,dom,dom.iterable"]
-        words += [*(str(page / name) for name in own), str(common.TOP / "tests/clients/newer.d.ts")]
+        words += [*map(str, own), str(common.TOP / "tests/page/newer.d.ts")]
         self.assertEqual(self.lines_of(words), [])

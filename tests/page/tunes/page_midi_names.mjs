@@ -4,6 +4,6 @@
 import { readFileSync } from "node:fs";
 import { pathToFileURL } from "node:url";
 
-const { midiName } = await import(pathToFileURL(`${process.argv[2]}/midi_names.js`));
+const { midiName } = await import(pathToFileURL(`${process.argv[2]}/tunes/midi_names.js`));
 
 for (const [number, title] of JSON.parse(readFileSync(0, "utf8"))) console.log(JSON.stringify(midiName(number, title)));

@@ -3,14 +3,14 @@
 
 import { pathToFileURL } from "node:url";
 
-import { sheetRoot } from "./stub_document.mjs";
-import { run, same } from "./testing.mjs";
+import { sheetRoot } from "../stub_document.mjs";
+import { run, same } from "../testing.mjs";
 
 const from = (name) => import(pathToFileURL(`${process.argv[2]}/${name}.js`));
-const { beginTune, newTune } = await from("new_tune");
-const { freeNumber, nextNumber } = await from("numbers");
-const { Sheet } = await from("sheet");
-const { Text } = await from("text");
+const { beginTune, newTune } = await from("tunes/new_tune");
+const { freeNumber, nextNumber } = await from("tunes/tune_numbers");
+const { Sheet } = await from("editor/text_sheet");
+const { Text } = await from("text/text");
 
 const TUNE = ["T:New tune", "M:4/4", "L:1/8", "K:C", ""];
 

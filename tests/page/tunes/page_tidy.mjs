@@ -4,14 +4,14 @@
 import { readFileSync } from "node:fs";
 import { pathToFileURL } from "node:url";
 
-import { run, same } from "./testing.mjs";
+import { run, same } from "../testing.mjs";
 
 const [, , folder, answer] = process.argv;
-const { tidied } = await import(pathToFileURL(`${folder}/tidy.js`));
+const { tidied } = await import(pathToFileURL(`${folder}/tunes/tidy.js`));
 const ALL = { spaces: true, bars: true, lengths: true }, NONE = { spaces: false, bars: false, lengths: false };
 
 if (answer) {
-  const { tokensOf } = await import(pathToFileURL(`${folder}/seen.js`));
+  const { tokensOf } = await import(pathToFileURL(`${folder}/link/tokens_and_plays.js`));
   for (const { lines, rows } of JSON.parse(readFileSync(0, "utf8"))) {
     console.log(JSON.stringify(tidied(lines.map((text, n) => ({ text, tokens: tokensOf(rows[n]) })), ALL)));
   }

@@ -4,14 +4,14 @@
 import { readFileSync } from "node:fs";
 import { pathToFileURL } from "node:url";
 
-import { run, same } from "./testing.mjs";
+import { run, same } from "../testing.mjs";
 
 const [, , folder, answer] = process.argv;
-const { barsOf, firstKey, transposed } = await import(pathToFileURL(`${folder}/transpose.js`));
-const { keyOf, semitonesTo, signatureOf, tonicsOf, valueOf } = await import(pathToFileURL(`${folder}/key_fields.js`));
+const { barsOf, firstKey, transposed } = await import(pathToFileURL(`${folder}/tunes/transpose.js`));
+const { keyOf, semitonesTo, signatureOf, tonicsOf, valueOf } = await import(pathToFileURL(`${folder}/tunes/key_field.js`));
 
 if (answer) {
-  const { tokensOf } = await import(pathToFileURL(`${folder}/seen.js`));
+  const { tokensOf } = await import(pathToFileURL(`${folder}/link/tokens_and_plays.js`));
   const { texts, semitones } = JSON.parse(readFileSync(0, "utf8"));
   for (const { lines, rows, range } of texts) {
     const known = lines.map((text, n) => ({ text, tokens: tokensOf(rows[n]) }));

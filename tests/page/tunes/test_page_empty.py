@@ -166,7 +166,7 @@ class FaultList(test_page_in_browser.Browser):
     def test_the_line_at_the_bottom(self) -> None:
         """It has the keys, and the place of the caret."""
         keys = self.run_script("return [...document.querySelectorAll('#keys kbd')].map((one) => one.textContent)")
-        self.assertEqual(keys, ["Ctrl-F", "Ctrl-S", "Ctrl-Z", "F8", "Ctrl-Space"])
+        self.assertEqual(keys, ["Ctrl-F", "Ctrl-S", "Ctrl-Z", "F8", "F9", "Ctrl-Space"])
         self.type("X:1\nK:")
         self.wait(lambda: self.run_script(PLACE) == "Line 2, column 3")
         self.press(HOME)
@@ -182,5 +182,5 @@ class FaultList(test_page_in_browser.Browser):
         self.addCleanup(lambda: self.driver and self.driver.execute_cdp_cmd("Page.removeScriptToEvaluateOnNewDocument", added))
         self.load()
         keys = self.run_script("return [...document.querySelectorAll('#keys kbd')].map((one) => one.textContent)")
-        self.assertEqual(keys, ["⌘F", "⌘S", "⌘Z", "F8", "Ctrl-Space"])
+        self.assertEqual(keys, ["⌘F", "⌘S", "⌘Z", "F8", "F9", "Ctrl-Space"])
         self.assertEqual(self.run_script("return document.getElementById('save').title"), "Save the book (⌘S)")

@@ -6,7 +6,7 @@ import test_page_in_browser
 
 class Scripts(page_in_node.PageScripts):
     def test_scripts(self) -> None:
-        self.assert_ok("page_new_tune.mjs", 3)
+        self.assert_ok("tunes/page_new_tune.mjs", 3)
 
 
 class Clicked(test_page_in_browser.Browser):

@@ -10,7 +10,7 @@ import trial
 
 class Scripts(page_in_node.PageScripts):
     def test_scripts(self) -> None:
-        self.assert_ok("page_tidy.mjs", 6)
+        self.assert_ok("tunes/page_tidy.mjs", 6)
 
 
 class Heard(test_page_transpose.PlayedTexts):
@@ -31,7 +31,7 @@ class Heard(test_page_transpose.PlayedTexts):
         for lines in texts:
             self.load(lines)
             asked.append({"lines": lines, "rows": self.rows(lines)})
-        return [json.loads(row) for row in self.node("page_tidy.mjs", json.dumps(asked), ["--tidy"])]
+        return [json.loads(row) for row in self.node("tunes/page_tidy.mjs", json.dumps(asked), ["--tidy"])]
 
     def test_tricky_tunes(self) -> None:
         self.assert_same_files([text.split("\n") for text in test_page_transpose.TRICKY.values()])

@@ -7,9 +7,10 @@ from typing import Any, Optional
 import page_in_node
 import trial
 from abc2midi_live.plays import Entry
-from abc2midi_live_clients.program import SessionBook, open_library
-from abc2midi_live_clients.texts import Text
-from abc2midi_live_clients.views import Sight, view_of
+from abc2midi_live_clients.common.options import open_library
+from abc2midi_live_clients.common.session_book import SessionBook
+from abc2midi_live_clients.page.book_text import Text
+from abc2midi_live_clients.page.tokens_and_plays import Sight, view_of
 
 SEMITONES = list(range(-12, 13))
 TUNES = 30
@@ -31,7 +32,7 @@ TRICKY = {
 
 class Scripts(page_in_node.PageScripts):
     def test_scripts(self) -> None:
-        self.assert_ok("page_transpose.mjs", 14)
+        self.assert_ok("tunes/page_transpose.mjs", 14)
 
 
 class PlayedTexts(page_in_node.PageScripts):
@@ -64,7 +65,7 @@ class Heard(PlayedTexts):
         for lines in texts:
             self.load(lines)
             asked.append({"lines": lines, "rows": self.rows(lines), "range": part})
-        return [json.loads(row) for row in self.node("page_transpose.mjs", json.dumps({"texts": asked, "semitones": SEMITONES}), ["--transpose"])]
+        return [json.loads(row) for row in self.node("tunes/page_transpose.mjs", json.dumps({"texts": asked, "semitones": SEMITONES}), ["--transpose"])]
 
     def assert_higher(self, texts: list[list[str]]) -> list[str]:
         """Each tone is higher by as many semitones. Returns why a note stayed as it was; the keys of those tunes are not compared."""

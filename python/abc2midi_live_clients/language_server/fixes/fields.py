@@ -5,8 +5,8 @@ from typing import Optional
 
 from abc2midi_live import TokenKind
 
+from ..voice_and_part_names import BLANKS, PART, PARTS, VOICE
 from .fix import Fix, Known, LineChange
-from .names import BLANKS, PART, PARTS, VOICE
 
 NUMBERS = ("octave", "transpose")  # properties with a number
 USUAL_TEMPO = "1/4=120"

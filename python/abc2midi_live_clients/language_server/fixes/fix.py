@@ -5,10 +5,10 @@ from typing import NamedTuple, Optional
 
 from abc2midi_live import TokenKind
 
-from .document import Document, TuneLines
-from .names import Name, names_in
-from .token_texts import TokenText
-from .remarks import Remark
+from ..diagnostics import Remark
+from ..document import Document, TuneLines
+from ..token_texts import TokenText
+from ..voice_and_part_names import Name, names_in
 
 LARGEST = 999_999_999  # number of a tune
 

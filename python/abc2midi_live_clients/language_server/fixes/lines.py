@@ -6,8 +6,8 @@ from typing import Optional
 
 from abc2midi_live import TokenKind
 
+from ..voice_and_part_names import BLANKS
 from .fix import Fix, Known, LineChange
-from .names import BLANKS
 
 LETTERS = frozenset("abcdefghijklmnopqrstuvwxyz")
 BLOCK_KINDS = (TokenKind.BLANK, TokenKind.COMMENT)
@@ -103,10 +103,9 @@ def heading(known: Known) -> Optional[Fix]:
 
 
 def first_number(known: Known) -> Optional[Fix]:
-    """Begins the first tune of a text."""
-    if "`X:1`" not in known.remark.text:
-        return None
-    return Fix("Write X:1", (known.insertion(known.number, "X:1"),), is_preferred=False)
+    """Begins the first tune of a text, with its first music or the fields above that."""
+    fix = heading(known) if "`X:1`" in known.remark.text else None
+    return fix._replace(is_preferred=False) if fix else None
 
 
 def text_block(known: Known) -> Fix:

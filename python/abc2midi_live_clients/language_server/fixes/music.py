@@ -1,21 +1,22 @@
-"""Fixes of music: signs that lack their partner, sharps, ties and repeats."""
+"""Fixes of music: signs that lack their partner, signs without a meaning, ties and repeats."""
 
-from collections.abc import Callable, Iterator
+from collections.abc import Callable
 from typing import Optional
 
 from abc2midi_live import TokenKind
 
+from ..token_texts import TokenText
 from .fix import Fix, Known, LineChange
-from .token_texts import TokenText
+from .foreign import closing_quotes, plain_blanks, straight_quotes
 
 CLOSING = {'"': '"', "!": "!", "{": "}", "[": "]"}
 ENDS_OF_WORDS = frozenset(' \t\r|%"!{}[]')
-MARKS = frozenset("^_=")
-NOTE_LETTERS = frozenset("ABCDEFGabcdefg")
 
 
 def closing(known: Known) -> Optional[Fix]:
-    """Closes what begins at a sign: after the word there, as in `"Em DEFD`."""
+    """Closes what begins at a sign: after the word there, as in `"Em DEFD`, or at a quote of a word processor."""
+    if fix := closing_quotes(known):
+        return fix
     sign, start = CLOSING.get(known.line[known.remark.start : known.remark.start + 1]), known.remark.start + 1
     end = next((n for n in range(start, len(known.line)) if known.line[n] in ENDS_OF_WORDS), len(known.line))
     if not sign or end == start:
@@ -24,8 +25,8 @@ def closing(known: Known) -> Optional[Fix]:
 
 
 def stray_sign(known: Known) -> Optional[Fix]:
-    """Writes an old decoration between exclamation marks, or deletes a sign without a meaning."""
-    return decoration(known) or deletion(known)
+    """Writes an old decoration, a quote or a space as ABC has it, or deletes a sign without a meaning."""
+    return decoration(known) or straight_quotes(known) or plain_blanks(known) or deletion(known)
 
 
 def decoration(known: Known) -> Optional[Fix]:
@@ -43,24 +44,8 @@ def deletion(known: Known) -> Optional[Fix]:
     sign = known.line[known.remark.start : known.remark.end]
     if not sign.strip() or sign == "&" or known.line[: known.remark.start].endswith("#"):
         return None
-    return Fix(f"Delete {sign}", (known.change(known.remark.start, known.remark.end, ""),), is_preferred=False)
-
-
-def sharps(known: Known) -> Optional[Fix]:
-    """Writes each sharp of a tune before its note."""
-    changes = tuple(change for line in known.lines() for change in sharps_of(known.document.tokens(line)))
-    return Fix("Write each sharp before its note", changes) if changes else None
-
-
-def sharps_of(tokens: list[TokenText]) -> Iterator[LineChange]:
-    """Yields the changes of a line: a sign before a note, or after one that has no sign, becomes a `^` before it."""
-    for before, token, after in zip([None, *tokens], tokens, [*tokens[1:], None]):
-        if token.text != "#" or token.kind not in (TokenKind.NO_EFFECT, TokenKind.BAD_BYTE):
-            continue
-        if before and before.end == token.start and before.kind == TokenKind.NOTE and before.text[0] in NOTE_LETTERS:
-            yield LineChange(token.line, before.start, token.end, f"^{before.text}")
-        elif after and after.kind == TokenKind.NOTE and after.text[0] in NOTE_LETTERS:
-            yield LineChange(token.line, token.start, token.end, "^")
+    shown = sign if sign.isprintable() else " ".join(f"U+{ord(each):04X}" for each in sign)
+    return Fix(f"Delete {shown}", (known.change(known.remark.start, known.remark.end, ""),), is_preferred=False)
 
 
 def tie(known: Known) -> Optional[Fix]:
@@ -110,7 +95,6 @@ def is_new_start(token: TokenText) -> bool:
 MUSIC_FIXES: dict[str, Callable[[Known], Optional[Fix]]] = {
     "Unclosed": closing,
     "BadByte": stray_sign,
-    "LostSharp": sharps,
     "LooseTie": tie,
     "EmptyChord": rest_for_chord,
     "OpenRepeat": closed_repeat,

@@ -6,9 +6,9 @@ from typing import Optional
 
 from abc2midi_live import TokenKind
 
+from ..token_texts import TokenText
+from ..voice_and_part_names import VOICE
 from .fix import Fix, Known, LineChange
-from .names import VOICE
-from .token_texts import TokenText
 
 LENGTH = "0123456789/"
 TIMED = (TokenKind.NOTE, TokenKind.CHORD, TokenKind.REST)

@@ -1,9 +1,10 @@
-"""Starts a program within limits: `score_limits.py USE PROGRAM [WORD..]`, USE one of `USES`. It needs no other module of the package.
+"""Starts a program within limits: `limits.py USE PROGRAM [WORD..]`, USE one of `USES`. It needs no other module of the package.
 
 The program has limits of memory and time. It can write no byte into a file, but for the use `CONVERTING`, and then only in its own
-folder. With libseccomp it can open no connection, start no process and reach no other one. If Linux has Landlock, it can also create
-and remove no other file, and read none but those of the system's programs, libraries and fonts. Before the output of the program
-comes a line: `FILTERED` or `UNFILTERED`."""
+folder. With libseccomp it has only the system calls of a list: it opens no connection, starts no process, reaches no other one, and
+changes no file, its rights, owner, times and attributes among them. If Linux has Landlock, it can also create and remove no other
+file, and read none but those of the system's programs, libraries and fonts. Before the output of the program comes a line with the
+walls that could be set: `FILTER`, `FILES`."""
 
 import errno
 import os
@@ -22,20 +23,29 @@ SYSTEM = ["/usr", "/bin", "/lib", "/lib64", "/nix/store", "/dev/null"]
 SYSTEM += ["/etc/fonts", "/etc/ld.so.cache", "/etc/localtime", "/var/cache/fontconfig"]
 SYSTEM += ["/etc/ghostscript", "/var/lib/ghostscript"]
 
-FILTERED, UNFILTERED = b"filtered", b"unfiltered"
+FILTER, FILES = "filter", "files"  # the walls that the line before the output names
 LIBRARY = "libseccomp.so.2"
 ALLOW, REFUSE, HIDE = 0x7FFF0000, 0x00050000 | errno.EPERM, 0x00050000 | errno.ENOSYS  # actions of libseccomp
-IS_NOT, MASKED_IS = 1, 7  # comparisons of libseccomp
-CLONE_THREAD = 0x10000
-REFUSED = ["socket", "socketpair", "socketcall", "io_uring_setup"]  # connections
-REFUSED += ["fork", "vfork", "unshare", "setns", "setsid", "setpgid"]  # processes, and leaving their group
-REFUSED += ["ptrace", "process_vm_readv", "process_vm_writev", "pidfd_open", "pidfd_getfd", "pidfd_send_signal"]  # other processes
-REFUSED += ["rt_sigqueueinfo", "rt_tgsigqueueinfo", "setpriority", "ioprio_set", "migrate_pages", "move_pages"]
-REFUSED += ["sched_setscheduler", "sched_setparam", "sched_setattr", "sched_setaffinity"]
-REFUSED += ["shmget", "shmat", "shmctl", "semget", "semop", "semtimedop", "semctl", "msgget", "msgsnd", "msgrcv", "msgctl", "mq_open"]
-REFUSED += ["ipc", "keyctl", "add_key", "request_key", "bpf", "perf_event_open", "userfaultfd"]
+IS, MASKED_IS = 4, 7  # comparisons of libseccomp
+CLONE_THREAD, CHANGING = 0x10000, os.O_WRONLY | os.O_RDWR | os.O_CREAT | os.O_TRUNC | os.O_APPEND
+WORD = 0xFFFFFFFF  # the bits that an argument of 32 bits has
+ALLOWED = ["read", "readv", "pread64", "preadv", "write", "writev", "pwrite64", "pwritev", "lseek", "_llseek", "sendfile", "copy_file_range"]
+ALLOWED += ["close", "close_range", "dup", "dup2", "dup3", "pipe", "pipe2", "poll", "ppoll", "select", "_newselect", "pselect6"]
+ALLOWED += ["stat", "lstat", "fstat", "newfstatat", "stat64", "lstat64", "fstat64", "fstatat64", "statx", "statfs", "fstatfs", "statfs64", "fstatfs64"]
+ALLOWED += ["access", "faccessat", "faccessat2", "readlink", "readlinkat", "getdents", "getdents64", "getcwd", "chdir", "fchdir", "fadvise64", "umask"]
+ALLOWED += ["mmap", "mmap2", "munmap", "mprotect", "mremap", "brk", "madvise", "getrlimit", "ugetrlimit", "setrlimit", "getrusage", "times"]
+ALLOWED += ["rt_sigaction", "rt_sigprocmask", "rt_sigreturn", "sigreturn", "sigaltstack", "rt_sigsuspend", "pause", "restart_syscall"]
+ALLOWED += ["nanosleep", "clock_nanosleep", "clock_gettime", "clock_getres", "gettimeofday", "time", "sysinfo", "uname", "getrandom", "getcpu"]
+ALLOWED += ["getpid", "gettid", "getppid", "getpgrp", "getpgid", "getsid", "getuid", "geteuid", "getgid", "getegid", "getgroups", "getresuid", "getresgid"]
+ALLOWED += ["execve", "exit", "exit_group", "wait4", "waitid", "sched_yield", "sched_getaffinity", "futex", "futex_time64", "arch_prctl"]
+ALLOWED += ["set_tid_address", "set_robust_list", "get_robust_list", "rseq", "membarrier"]
+ALLOWED_IF_WRITING = ["open", "openat", "creat", "unlink", "unlinkat", "ftruncate"]
+OPENING = {"open": 1, "openat": 2}  # the argument that says how; one that changes nothing is allowed
 OF_ITSELF = ["kill", "tkill", "tgkill"]  # allowed if their first argument is the process's own number
 OF_THE_CALLER = ["prlimit64"]  # allowed if their first argument is 0
+DESCRIPTOR_COMMANDS = [0, 1, 2, 3, 4, 1030]  # of fcntl: copies, and flags; no locks, no owner and no signal
+TERMINAL_QUESTIONS = [0x5401, 0x5413, 0x541B, 0x5450, 0x5451]  # of ioctl: TCGETS, TIOCGWINSZ, FIONREAD, FIONCLEX, FIOCLEX
+HIDDEN = ["clone3", "openat2"]  # their arguments cannot be seen, and programs use the older calls if these are missing
 
 PR_SET_PDEATHSIG, PR_SET_NO_NEW_PRIVS = 1, 38
 CREATE_RULESET, ADD_RULE, RESTRICT_SELF = 444, 445, 446  # of Landlock, on all processors alike
@@ -73,9 +83,10 @@ def end_with_parent() -> None:
     libc.prctl(PR_SET_NO_NEW_PRIVS, 1, 0, 0, 0)
 
 
-def refuse_calls() -> bool:
-    """Takes the right to open connections, and to start, reach and leave processes, for ever. Returns whether that was possible.
-    Threads stay possible, by the older of the two calls: the flags of the newer one cannot be seen."""
+def refuse_calls(writes: bool = False) -> bool:
+    """Takes the right to all system calls but those that a program needs to read, to compute and to write its output, for ever: so it
+    opens no connection, starts and reaches no process, and changes no file. Returns whether that was possible. A program that writes may
+    make files and remove them. Threads stay possible, by the older of the two calls: the flags of the newer one cannot be seen."""
     try:
         import ctypes
 
@@ -87,17 +98,20 @@ def refuse_calls() -> bool:
         _fields_ = [("argument", ctypes.c_uint), ("kind", ctypes.c_int), ("first", ctypes.c_uint64), ("second", ctypes.c_uint64)]
 
     library.seccomp_init.restype = ctypes.c_void_p
-    rules = ctypes.c_void_p(library.seccomp_init(ctypes.c_uint32(ALLOW)))
+    rules = ctypes.c_void_p(library.seccomp_init(ctypes.c_uint32(REFUSE)))
 
-    def add(action: int, names: list[str], *comparison: int) -> bool:
-        """Adds a rule for each call, if its first argument compares so. An older library does not know the newest calls."""
+    def add(names: list[str], *comparison: int, action: int = ALLOW) -> bool:
+        """Adds a rule for each call, if an argument compares so. An older library does not know the newest calls."""
         calls = [library.seccomp_syscall_resolve_name(name.encode()) for name in names]
-        found = (1, ctypes.byref(Comparison(0, *comparison))) if comparison else (0, None)
+        found = (1, ctypes.byref(Comparison(*comparison))) if comparison else (0, None)
         known = [call for call in calls if call != -1]
         return not any(library.seccomp_rule_add_array(rules, ctypes.c_uint32(action), call, *found) for call in known)
 
-    is_added = [add(REFUSE, REFUSED), add(HIDE, ["clone3"]), add(REFUSE, ["clone"], MASKED_IS, CLONE_THREAD, 0)]
-    is_added += [add(REFUSE, OF_ITSELF, IS_NOT, os.getpid(), 0), add(REFUSE, OF_THE_CALLER, IS_NOT, 0, 0)]
+    is_added = [add(ALLOWED), add(HIDDEN, action=HIDE), add(["clone"], 0, MASKED_IS, CLONE_THREAD, CLONE_THREAD)]
+    is_added += [add(OF_ITSELF, 0, IS, os.getpid(), 0), add(OF_THE_CALLER, 0, IS, 0, 0)]
+    is_added += [add(["fcntl", "fcntl64"], 1, MASKED_IS, WORD, command) for command in DESCRIPTOR_COMMANDS]
+    is_added += [add(["ioctl"], 1, MASKED_IS, WORD, question) for question in TERMINAL_QUESTIONS]
+    is_added += [add(ALLOWED_IF_WRITING)] if writes else [add([name], at, MASKED_IS, CHANGING, 0) for name, at in OPENING.items()]
     return all(is_added) and library.seccomp_load(rules) == 0
 
 
@@ -109,25 +123,27 @@ def landlock_version() -> int:
     return max(0, version)
 
 
-def refuse_files(program: str, writes: bool = False) -> None:
-    """Takes the right to read anything but the system and the program, for ever. A program that writes has its own folder too."""
+def refuse_files(program: str, writes: bool = False) -> bool:
+    """Takes the right to read anything but the system and the program, for ever. A program that writes has its own folder too. Returns
+    whether that was possible."""
     import ctypes
 
     libc, version = ctypes.CDLL(None), landlock_version()
     if version < 1:
-        return
+        return False
     refused = [(1 << since(version, rights)) - 1 for rights in (FILE_RIGHTS, NET_RIGHTS, SCOPES)]
     size = since(version, RULESET_SIZES)
     ruleset = libc.syscall(CREATE_RULESET, struct.pack("=QQQ", *refused), ctypes.c_size_t(size), 0)
     if ruleset < 0:
-        return
+        return False
     for path in [*SYSTEM, os.path.realpath(program)]:
         with suppress(OSError):
             allow(libc, ruleset, path, READING)
     if writes:
         allow(libc, ruleset, ".", WRITING)
-    libc.syscall(RESTRICT_SELF, ruleset, 0)
+    is_set: bool = libc.syscall(RESTRICT_SELF, ruleset, 0) == 0
     os.close(ruleset)
+    return is_set
 
 
 def allow(libc: Any, ruleset: int, path: str, rights: int) -> None:
@@ -139,14 +155,15 @@ def allow(libc: Any, ruleset: int, path: str, rights: int) -> None:
 
 
 def main() -> None:
-    """Becomes the program."""
+    """Becomes the program. The filter comes last: it refuses what the other walls need."""
     use, program = sys.argv[1:3]
-    is_filtered = refuse_calls()
+    walls = []
     with suppress(ImportError, AttributeError):
         end_with_parent()
-        refuse_files(program, use == CONVERTING)
+        walls += [FILES] * refuse_files(program, use == CONVERTING)
     limit(use)
-    os.write(sys.stdout.fileno(), (FILTERED if is_filtered else UNFILTERED) + b"\n")
+    walls += [FILTER] * refuse_calls(use == CONVERTING)
+    os.write(sys.stdout.fileno(), " ".join(walls).encode() + b"\n")
     os.execv(program, sys.argv[2:])
 
 

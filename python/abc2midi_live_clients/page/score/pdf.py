@@ -4,20 +4,21 @@ import base64
 import os
 import tempfile
 import threading
-from typing import NamedTuple
+from typing import NamedTuple, Optional
 
-from .asked import Refused
-from .own_process import ENDED, OwnProcess, answer_all
-from .rows import Json
-from .score import ENVIRONMENT, LIMITS, MOST_CHARACTERS, MOST_LINES, NICENESS, NO_FILTER
-from .score_limits import CONVERTING, DRAWING_PAGES
-from .score_text import header_lines, tune_lines
+from ...common.json_object import Json
+from ..own_process import ENDED, OwnProcess, answer_all
+from ..refused import Refused
+from .limits import CONVERTING, DRAWING_PAGES
+from .readable_lines import header_lines, tune_lines
+from .score import ENVIRONMENT, LIMITS, MOST_CHARACTERS, MOST_LINES, NICENESS, note_on
 from .scorer import INSTALL, found_program
-from .walled_program import Killed, TooLarge, TooLate, output_of
+from .walled_program import Killed, Output, TooLarge, TooLate, output_of
 
 GHOSTSCRIPT = "gs"  # which the command ps2pdf starts
 INSTALL_GHOSTSCRIPT = "To store a PDF, install Ghostscript: sudo apt install ghostscript"
 SECONDS = 90  # that each of the two programs may take by the clock
+SECONDS_OF_THE_PROCESS = 2 * SECONDS + 60  # with what it does beside them
 MOST_BYTES = 64 << 20  # that each of them may write
 MOST_TUNES = 10_000
 PAPER = ["--pagewidth", "21cm", "--pageheight", "29.7cm", "--leftmargin", "1.5cm", "--rightmargin", "1.5cm", "--topmargin", "1.2cm"]
@@ -57,12 +58,12 @@ def pdf_of(drawer: str, converter: str, question: Question) -> Json:
         raise NoPdf("No tune here can be drawn: each needs a K: line, and is not too long.")
     text = "\n".join([*header_lines(question.header), "", *drawn]).encode()
     pages, converted = run("abcm2ps", [DRAWING_PAGES, drawer, *PAGES], text), b""
-    if b"%%Page:" in pages[0]:
-        converted, _ = run("Ghostscript", [CONVERTING, converter, *TO_PDF], pages[0])
+    if b"%%Page:" in pages.data:
+        converted, _ = run("Ghostscript", [CONVERTING, converter, *TO_PDF], pages.data)
     if not converted.startswith(b"%PDF"):
         raise NoPdf("These tunes have no notes to draw.")
     left = [place for place, text in enumerate(texts) if not text]
-    return {"pdf": base64.b64encode(converted).decode(), "left": left, "note": NO_FILTER if pages[1] else ""}
+    return {"pdf": base64.b64encode(converted).decode(), "left": left, "note": note_on(pages.walls)}
 
 
 def readable(tune: list[str]) -> str:
@@ -73,8 +74,8 @@ def readable(tune: list[str]) -> str:
     return "\n".join([*lines, "", ""]) if any(line.startswith("K:") for line in lines) else ""
 
 
-def run(name: str, words: list[str], text: bytes) -> tuple[bytes, bool]:
-    """What a program writes, and whether no filter of its system calls was set. Raises NoPdf."""
+def run(name: str, words: list[str], text: bytes) -> Output:
+    """What a program writes, and the walls that it has. Raises NoPdf."""
     try:
         return output_of([LIMITS, *words], text, {**ENVIRONMENT, "TMPDIR": "."}, SECONDS, MOST_BYTES)
     except TooLate as error:
@@ -92,22 +93,38 @@ class PdfMaker:
 
     def __init__(self) -> None:
         self.turn = threading.Lock()
+        self.process: Optional[OwnProcess] = None
+        self.is_closed = False
+
+    def close(self) -> None:
+        """Ends the process, also while it makes a PDF."""
+        self.is_closed = True
+        process = self.process
+        if process:
+            process.process.kill()
+
+    def needs(self) -> Json:
+        """What to install before there can be a PDF, which is nothing if all is there."""
+        return {"why": INSTALL if not found_program() else "" if found_program(GHOSTSCRIPT) else INSTALL_GHOSTSCRIPT}
 
     def answer(self, asked: Json) -> Json:
         """The PDF that a window asks for, which sends the lines of the tunes; or why there is none."""
         question = question_of(asked)
         drawer, converter = found_program(), found_program(GHOSTSCRIPT)
         if not drawer or not converter:
-            return {"why": INSTALL_GHOSTSCRIPT if drawer else INSTALL, "missing": True}
+            return {**self.needs(), "missing": True}
         if not self.turn.acquire(blocking=False):
             return {"why": "Another PDF is being made. Try again when it is there."}
         try:
             with tempfile.TemporaryDirectory() as folder:
-                process = OwnProcess("score_pdf", TMPDIR=folder)
+                process = self.process = OwnProcess("page.score.pdf", TMPDIR=folder)
                 try:
-                    found: Json = process.ask((drawer, converter, question))
+                    if self.is_closed:
+                        raise EOFError
+                    found: Json = process.ask((drawer, converter, question), SECONDS_OF_THE_PROCESS)
                     return found
                 finally:
+                    self.process = None
                     process.close()
         except ENDED as error:
             reason = os.strerror(error.errno) if isinstance(error, OSError) and error.errno else "it ended"

@@ -9,7 +9,7 @@ import unicodedata
 from collections.abc import Sequence
 from typing import NamedTuple
 
-from .places import utf8
+from ...common.line_places import utf8
 
 COMMENT = "%"  # replaces a line that is taken out
 TEXT_FIELDS, MUSIC_FIELDS, FILE_FIELDS = frozenset("CTOWw"), frozenset("KLMPQUVXs"), frozenset("CLMOQU")
@@ -21,7 +21,7 @@ IS_COMMENT = re.compile(r"(?!%%)\s*%")
 HEADER_LINE = re.compile(r"%%|[A-Za-z+]:")
 INLINE = re.compile(r"\[(\s*)([A-Za-z])(\s*):([^\]]*)")
 QUOTED = re.compile(r'"([^"]*)("?)')
-LAST_BACKSLASH = re.compile(r"\\[ \t]*(?:%.*)?$")
+LAST_BACKSLASH = re.compile(r"\\[ \t]*(?:%.*)?\Z", re.DOTALL)
 CONTROL = re.compile(r"[\x00-\x08\x0a-\x1f\x7f-\x9f\u2028\u2029\ufeff]")
 HALF = re.compile("[\ud800-\udfff]")
 ODD_BYTE = re.compile("[\udca0-\udcff]")  # as a window sends it
@@ -39,7 +39,7 @@ VOICE_NAME = re.compile(r'(?:name|nm|subname|sname|snm)=(?:"[^"]*"|[\w.-]{1,40})
 WORDS = (PLAIN_WORD, CLEF, PROPERTY, VOICE_NAME)
 VALUES = {
     "L": re.compile(r"[\d/\s]*"),
-    "M": re.compile(r"\s*(?:none|[Cco][|.]?|[\d+/().\s]*)\s*"),
+    "M": re.compile(r"\s*(?:none\s*|[Cco][|.]?\s*|[\d+/().][\d+/().\s]*)?"),
     "P": re.compile(r"[\w().\s]*"),
     "Q": re.compile(r'(?:"[^"]*"|[\w/=.\s])*'),
     "U": re.compile(r'\s*[H-Zh-w~]\s*=\s*[!+][\w<>().^+/-]{1,30}[!+]\s*'),

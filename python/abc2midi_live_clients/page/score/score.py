@@ -4,23 +4,26 @@ import json
 from pathlib import Path
 from typing import NamedTuple, Optional
 
-from .own_process import answer_all
-from .places import utf8, utf16
-from .score_limits import DRAWING
-from .score_markup import Node, NoDrawing, images_of
-from .score_text import TuneLine, header_lines, tune_lines
-from .walled_program import Killed, Output, TooLarge, TooLate, output_of
+from ...common.line_places import utf16, utf8
+from ..own_process import answer_all
+from .limits import DRAWING, FILES, FILTER
+from .readable_lines import TuneLine, header_lines, tune_lines
+from .svg_markup import NoDrawing, Node, images_of
+from .walled_program import OUTER, Killed, Output, TooLarge, TooLate, is_outer_installed, output_of
 
-MOST_LINES, MOST_CHARACTERS = 2_000, 100_000  # of a tune that is drawn; score.js sends no more than 5,000 lines
+MOST_LINES, MOST_CHARACTERS = 2_000, 100_000  # of a tune that is drawn; score_view.js sends no more than 5,000 lines
 MOST_BYTES = 2 << 20  # of a drawing
-SECONDS = 10  # that a drawing may take by the clock; `score_limits` has those of the processor
+SECONDS = 10  # that a drawing may take by the clock; `limits` has those of the processor
 NARROWEST, WIDEST = 240, 2_000  # pixels
 WIDTH_OF_FULL_SIZE, LEAST_SCALE = 800, 0.7  # staves are smaller if there is less room
 ENVIRONMENT: dict[str, str] = {}
 LATE = "abcm2ps took too long for this tune."
 NICENESS = 5
 NO_FILTER = "abcm2ps may open connections and start programs here. To prevent that, install libseccomp: sudo apt install libseccomp2"
-LIMITS = str(Path(__file__).resolve().parent / "score_limits.py")
+NO_FOLDERS = "abcm2ps may read your files here. To prevent that, install bubblewrap: sudo apt install bubblewrap"
+NO_NAMESPACES = "abcm2ps may read your files here: this system lets bubblewrap make no user namespaces."
+WALLS = {OUTER: "bubblewrap", FILES: "Landlock", FILTER: "a list of system calls"}
+LIMITS = str(Path(__file__).resolve().parent / "limits.py")
 MARGINS = ["--leftmargin", "4pt", "--rightmargin", "4pt", "--topmargin", "4pt", "--botmargin", "4pt"]
 OPTIONS = ["-q", "-S", "+F", "-k", "1024", "--pango", "0", *MARGINS, "--topspace", "0pt", "--staffsep", "36pt"]
 TO_OUTPUT = ["-v", "-A", "-O-", "-"]  # `-g` fails on long tunes
@@ -44,12 +47,13 @@ class Answer(NamedTuple):
 
 
 class Question(NamedTuple):
-    """The lines of a file header and of a tune, and how many pixels wide the staves are to be on a screen; None for pages of
-    paper."""
+    """The lines of a file header and of a tune, how many pixels wide the staves are to be on a screen, None for pages of
+    paper, and by how many semitones they are higher than the tune."""
 
     header: tuple[str, ...]
     tune: tuple[str, ...]
     width: Optional[int]
+    transpose: int = 0
 
 
 def serve() -> None:
@@ -58,10 +62,11 @@ def serve() -> None:
 
 
 class Score(NamedTuple):
-    """The images of a tune, and what to say beside them, which may be nothing."""
+    """The images of a tune, what to say beside them, which may be nothing, and the walls in which they were drawn."""
 
     images: list[Node]
     note: str
+    walls: str
 
 
 def answer(program: str, question: Question) -> Answer:
@@ -82,7 +87,7 @@ def score_of(program: str, question: Question) -> Score:
     counted from 0, and its column counts there in UTF-16 units."""
     if len(question.tune) > MOST_LINES or sum(map(len, question.tune + question.header)) > MOST_CHARACTERS:
         raise NoScore("This tune is too long to be drawn.")
-    header, tune = header_lines(question.header), tune_lines(question.tune)
+    header, tune = [*transposition(question.transpose), *header_lines(question.header)], tune_lines(question.tune)
     if not any(line.readable.startswith("K:") for line in tune):
         raise NoScore("abcm2ps draws no tune that has no K: line.")
     drawn = drawing(program, question.width, "\n".join([*header, "", *(line.readable for line in tune), ""]).encode())
@@ -93,7 +98,27 @@ def score_of(program: str, question: Question) -> Score:
     placed = [image for image in found if in_tune(image, len(header) + 2, tune)]
     if not placed:
         raise NoScore("This tune has no notes to draw.")
-    return Score(placed, NO_FILTER if drawn.is_unfiltered else "")
+    return Score(placed, note_on(drawn.walls), names_of(drawn.walls))
+
+
+def transposition(semitones: int) -> list[str]:
+    """The line that has `abcm2ps` draw higher, which no book can write."""
+    return [f"%%transpose {semitones}"] if semitones else []
+
+
+def note_on(walls: frozenset[str]) -> str:
+    """What to say about walls that are missing; nothing if others are there instead."""
+    if FILTER not in walls:
+        return NO_FILTER
+    if not walls & {OUTER, FILES}:
+        return NO_NAMESPACES if is_outer_installed() else NO_FOLDERS
+    return ""
+
+
+def names_of(walls: frozenset[str]) -> str:
+    """The walls as a sentence."""
+    found = [words for wall, words in WALLS.items() if wall in walls]
+    return f"abcm2ps runs within limits of time and memory, and within: {', '.join(found) or 'no other wall'}."
 
 
 def in_tune(node: Node, first: int, tune: list[TuneLine]) -> bool:

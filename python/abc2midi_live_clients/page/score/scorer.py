@@ -7,15 +7,17 @@ import threading
 from collections import OrderedDict
 from typing import Optional
 
-from .asked import Refused
-from .own_process import ENDED, OwnProcess
-from .rows import Json
-from .score import Answer, Question, refusal_json
+from ...common.json_object import Json
+from ..own_process import ENDED, Overdue, OwnProcess
+from ..refused import Refused
+from .score import SECONDS, Answer, Question, refusal_json
 
 PROGRAM = "abcm2ps"
 INSTALL = "To see the score, install abcm2ps: sudo apt install abcm2ps"
 SECONDS_IN_A_ROW = 12  # that a request may wait for the one before
+SECONDS_OF_THE_PROCESS = SECONDS + 5  # with what it does before and after the program draws
 MOST_KEPT = 8  # answers
+MOST_SEMITONES = 36  # by which a score is transposed
 
 
 class Scorer:
@@ -54,16 +56,17 @@ class Scorer:
         """What the process answers."""
         try:
             self.folder = self.folder or tempfile.TemporaryDirectory()
-            self.process = self.process or OwnProcess("score", TMPDIR=self.folder.name)
+            self.process = self.process or OwnProcess("page.score.score", TMPDIR=self.folder.name)
         except OSError as error:
             return Answer(refusal_json(f"The process that draws scores cannot be started: {error.strerror}."), False)
         try:
-            answer: Answer = self.process.ask((program, question))
+            answer: Answer = self.process.ask((program, question), SECONDS_OF_THE_PROCESS)
             return answer
-        except ENDED:
+        except ENDED as error:
             self.process.close()
             self.process = None
-            return Answer(refusal_json("The process that draws scores ended on this tune."), False)
+            is_late = isinstance(error, Overdue)
+            return Answer(refusal_json(f"The process that draws scores {'took too long for' if is_late else 'ended on'} this tune."), is_late)
         finally:
             if self.is_closed:
                 self.close()
@@ -90,4 +93,7 @@ def question_of(asked: Json) -> Question:
             raise Refused(400, "a tune to be drawn is a list of lines, and so is the file header")
     if width is not None and type(width) is not int:
         raise Refused(400, "the width of a score is a number of pixels, or null for paper")
-    return Question(tuple(header or ()), tuple(tune or ()), width)
+    transpose = asked.get("transpose", 0)
+    if type(transpose) is not int or abs(transpose) > MOST_SEMITONES:
+        raise Refused(400, f"a score is at most {MOST_SEMITONES} semitones higher or lower than its tune")
+    return Question(tuple(header or ()), tuple(tune or ()), width, transpose)

@@ -1,6 +1,6 @@
 """The SVG of `abcm2ps` as a tree of elements that a page may show, and the places of its notes in the text.
 
-score_tree.js makes elements of the tree. It has the same lists of elements and attributes, and leaves out any other."""
+score_elements.js makes elements of the tree. It has the same lists of elements and attributes, and leaves out any other."""
 
 import re
 from itertools import takewhile
@@ -19,9 +19,10 @@ COUNT = re.compile(r"\d{1,7}", re.A)
 NUMBERS = re.compile(r"[\d.,eE\s-]{1,200}")
 LENGTH = re.compile(r"(\d{1,6}(?:\.\d{1,4})?)(?:px)?")
 PATH = re.compile(r"[MmLlHhVvCcSsQqTtAaZz\d.,eE\s+-]{0,100000}")
-TRANSFORM = re.compile(r"(?:\s*(?:translate|scale|rotate|matrix|skewX|skewY)\([\d.,eE\s-]{1,100}\)\s*){1,8}")
+TRANSFORM = re.compile(r"(?:\s*(?:translate|scale|rotate|matrix|skewX|skewY)\([\d.,eE\s-]{1,100}\)){1,8}\s*")
 NAME = re.compile(r"[A-Za-z_][\w.-]{0,40}", re.A)
-FONT = re.compile(r"\s*font:\s*((?:italic|oblique|bold|normal|\s)*?)\s*(\d{1,4}(?:\.\d{1,4})?)px\s+([A-Za-z][A-Za-z, -]{0,60})\s*;?\s*")
+FONT_WORDS = r"(?:\s*(?:italic|oblique|bold|normal))*"
+FONT = re.compile(rf"\s*font:({FONT_WORDS})\s*(\d{{1,4}}(?:\.\d{{1,4}})?)px\s+([A-Za-z][A-Za-z, -]{{0,60}})\s*(?:;\s*)?")
 ENTITY = re.compile(rb"&(?!(?:amp|lt|gt|quot|apos|#[0-9]{1,7}|#x[0-9A-Fa-f]{1,6});)")
 UNWRITABLE = re.compile("[\x00-\x08\x0b-\x1f\x7f-\x9f\ufffe\uffff]")
 Forms = dict[str, "re.Pattern[str]"]

@@ -1,8 +1,9 @@
-"""What a program writes that runs in the walls of `score_limits`: in an empty folder, for a limited time, in a group of processes that
+"""What a program writes that runs in the walls of `limits`: in an empty folder, for a limited time, in a group of processes that
 is killed at the end."""
 
 import os
 import select
+import shutil
 import signal
 import subprocess
 import sys
@@ -10,9 +11,14 @@ import tempfile
 import threading
 import time
 from contextlib import suppress
+from functools import lru_cache
 from typing import NamedTuple
 
-from .score_limits import UNFILTERED
+from .limits import CONVERTING, SYSTEM
+
+BUBBLEWRAP = "bwrap"
+OUTER = "bubblewrap"  # the name of the outer wall
+SECONDS_FOR_A_TRIAL = 10
 
 
 class TooLate(Exception):
@@ -28,32 +34,71 @@ class Killed(Exception):
 
 
 class Output(NamedTuple):
-    """What a program writes, and whether no filter of its system calls was set."""
+    """What a program writes, and the walls that it has: `OUTER`, and those of `limits`."""
 
     data: bytes
-    is_unfiltered: bool
+    walls: frozenset[str]
 
 
 def output_of(command: list[str], text: bytes, environment: dict[str, str], seconds: float, most: int) -> Output:
-    """What a program writes for a text. The command is `score_limits.py`, a use, and the program with its words. Raises one of the errors
+    """What a program writes for a text. The command is `limits.py`, a use, and the program with its words. Raises one of the errors
     above, or OSError if the program cannot be run."""
+    limits, use, program, *words = command
     with tempfile.TemporaryDirectory() as folder, tempfile.TemporaryFile() as asked:
         asked.write(text)
         asked.seek(0)
+        outer = outer_wall(limits, use, program, folder)
+        inner = [sys.executable, "-I", "-S", limits, use, os.path.realpath(program) if outer else program, *words]
         process = subprocess.Popen(
-            [sys.executable, "-I", "-S", *command], stdin=asked, stdout=subprocess.PIPE, stderr=subprocess.DEVNULL,
+            [*outer, *inner], stdin=asked, stdout=subprocess.PIPE, stderr=subprocess.DEVNULL,
             cwd=folder, env=environment, start_new_session=True,
         )  # fmt: skip
         try:
             data = read_output(process, seconds, most)
         finally:
             end(process)
-    if process.returncode in (-signal.SIGXCPU, -signal.SIGKILL):
+    number = -process.returncode if not outer else process.returncode - 128  # bubblewrap ends as a shell does
+    if number in (signal.SIGXCPU, signal.SIGKILL):
         raise TooLate
-    if process.returncode < 0:
-        raise Killed(signal.strsignal(-process.returncode))
+    if number > 0:
+        raise Killed(signal.strsignal(number) or f"signal {number}")
     walls, _, written = data.partition(b"\n")
-    return Output(written, walls == UNFILTERED)
+    return Output(written, frozenset([*walls.decode("ascii", "replace").split(), *([OUTER] if outer else [])]))
+
+
+def outer_wall(limits: str, use: str, program: str, folder: str) -> list[str]:
+    """The words before a command that has bubblewrap show it a machine with the system's programs, Python and one folder, and no other
+    process and network; none if that is not possible."""
+    wall = outer_program()
+    if not wall:
+        return []
+    python = [os.path.realpath(sys.executable), sys.executable, sys.prefix, sys.base_prefix]
+    seen = [path for path in dict.fromkeys([*python, os.path.dirname(os.path.realpath(limits)), os.path.realpath(program)]) if path not in SYSTEM]
+    words = [wall, "--unshare-all", "--die-with-parent"]
+    for path in SYSTEM:
+        words += ["--dev-bind-try" if path.startswith("/dev/") else "--ro-bind-try", path, path]
+    for path in seen:
+        words += ["--ro-bind", path, path]
+    return [*words, "--bind" if use == CONVERTING else "--ro-bind", folder, folder, "--chdir", folder, "--"]
+
+
+def is_outer_installed() -> bool:
+    """Whether bubblewrap is installed, whether or not the system lets it work."""
+    return shutil.which(BUBBLEWRAP, path="/usr/bin:/bin") is not None
+
+
+@lru_cache(maxsize=1)
+def outer_program() -> str:
+    """The path of bubblewrap; nothing if it is not installed, or the system has no user namespaces for it."""
+    found = shutil.which(BUBBLEWRAP, path="/usr/bin:/bin")
+    if not found:
+        return ""
+    trial = [found, "--unshare-all", "--ro-bind", "/", "/", "--", "/bin/true"]
+    try:
+        is_usable = subprocess.run(trial, capture_output=True, timeout=SECONDS_FOR_A_TRIAL, check=False).returncode == 0
+    except (OSError, subprocess.TimeoutExpired):
+        is_usable = False
+    return found if is_usable else ""
 
 
 def read_output(process: "subprocess.Popen[bytes]", seconds: float, most: int) -> bytes:

@@ -19,10 +19,11 @@ from unittest import mock
 
 import page_in_node
 import trial
-from abc2midi_live_clients import score, score_limits, score_markup, score_text
-from abc2midi_live_clients.score import Answer, NoScore, Question
-from abc2midi_live_clients.score_markup import NoDrawing, images_of
-from abc2midi_live_clients.scorer import INSTALL, MOST_KEPT, Scorer, found_program
+from abc2midi_live_clients.page.score import limits as score_limits, readable_lines, score, scorer as scorer_module, svg_markup, walled_program
+from abc2midi_live_clients.page.score.score import Answer, NoScore, Question
+from abc2midi_live_clients.page.refused import Refused
+from abc2midi_live_clients.page.score.scorer import INSTALL, MOST_KEPT, Scorer, found_program, question_of
+from abc2midi_live_clients.page.score.svg_markup import NoDrawing, images_of
 
 DRAWS = shutil.which("abcm2ps") or ""
 NAMES = ["abc-include", "EPS", "postscript", "ps", "format", "font", "titlefont", "musicfont", "deco", "glyph", "header", "select", "user", "pdfmark"]
@@ -46,7 +47,7 @@ def hostile_lines() -> list[Any]:
 
 def readable(*lines: str) -> list[Any]:
     """The lines that `abcm2ps` reads of these lines of a tune."""
-    return [line.readable for line in score_text.tune_lines(list(lines))]
+    return [line.readable for line in readable_lines.tune_lines(list(lines))]
 
 
 def nodes(tree: list[Any]) -> Iterator[list[Any]]:
@@ -95,14 +96,14 @@ class Readable(unittest.TestCase):
             self.assertEqual(len(kept), 6, line)
             for one in (kept[2], kept[4]):
                 self.assertNotRegex(one, r"^\s*(%.|I)", line)
-            self.assertNotIn("%%", "".join(score_text.header_lines([line])), line)
-            self.assertFalse([one for one in score_text.header_lines([line]) if "passwd" in one], line)
+            self.assertNotIn("%%", "".join(readable_lines.header_lines([line])), line)
+            self.assertFalse([one for one in readable_lines.header_lines([line]) if "passwd" in one], line)
 
     def test_hostile_blocks(self) -> None:
         """The lines between begin and end are no longer PostScript, but music, or gone."""
         block = ["%%beginps", "/secret (x) def", "%%endps", "I:beginsvg", "<script>", "I:endsvg"]
         self.assertEqual(readable("X:1", *block, "K:C")[1::2][:3], ["%", "%", "<script>"])
-        self.assertEqual(score_text.header_lines(block), [])
+        self.assertEqual(readable_lines.header_lines(block), [])
 
     def test_lines_in_lines(self) -> None:
         """What ends a line for some programs does not end one here."""
@@ -159,14 +160,14 @@ class Readable(unittest.TestCase):
         """They are letters of Latin-1, if it has letters for them; other halves of pairs are none."""
         odd = b"T:Fr\xe8re \xc3\xa9 \xfc".decode("utf-8", "surrogateescape")
         self.assertEqual(readable(odd, "T:\udc85\ud83d\udcff"), ["T:Frère é ü", "T:??ÿ"])
-        self.assertEqual(score_text.header_lines([odd.replace("T:", "C:")]), ["C:Frère é ü"])
+        self.assertEqual(readable_lines.header_lines([odd.replace("T:", "C:")]), ["C:Frère é ü"])
 
     def test_a_header(self) -> None:
         lines = ["%abc-2.1", " % words", "M:6/8", "T:none", "%%score 1", "K:G", "I:EPS x", "C D E", "X:1"]
-        self.assertEqual(score_text.header_lines(lines), ["M:6/8", "%%score 1"])
-        self.assertEqual(score_text.header_lines(["%%EPS x", "M:6/8"]), ["M:6/8"])
-        self.assertEqual(score_text.header_lines(["% words", "My tunes", "M:6/8"]), [])
-        self.assertEqual(score_text.header_lines([]), [])
+        self.assertEqual(readable_lines.header_lines(lines), ["M:6/8", "%%score 1"])
+        self.assertEqual(readable_lines.header_lines(["%%EPS x", "M:6/8"]), ["M:6/8"])
+        self.assertEqual(readable_lines.header_lines(["% words", "My tunes", "M:6/8"]), [])
+        self.assertEqual(readable_lines.header_lines([]), [])
 
     def test_columns(self) -> None:
         """A text that is replaced in a line of music has as many bytes as before."""
@@ -174,7 +175,7 @@ class Readable(unittest.TestCase):
         bits = ["\\", "012", "\\u266f", "\\'e", "\\ss", '"', "[", "]", "K:", "V:1", "I:", "x", "é", "𝄞", "\ud800", " ", "%", "$1", "clef=", "\\042", "&"]
         for _ in range(2000):
             line = "C" + "".join(chance.choice(bits) for _ in range(chance.randrange(12)))
-            (kept,) = score_text.tune_lines([line])
+            (kept,) = readable_lines.tune_lines([line])
             if not kept.readable.endswith("\\"):
                 self.assertEqual(len(kept.readable.encode()), len(kept.text.encode()), line)
             self.assertNotIn("\\", kept.readable[:-1])
@@ -263,7 +264,7 @@ class Markup(unittest.TestCase):
         for data in (
             bomb + SVG.format("<text>&b;</text>"), '<!DOCTYPE svg SYSTEM "file:///etc/passwd">' + SVG.format(""), '<?xml-stylesheet href="x"?>' + SVG.format(""),
             SVG.format("<g>"), SVG.format("</g>"), "<svg>", "<svg/>", '<svg width="100%" height="1px"/>', SVG.format("<text></svg>"), SVG.format('<g a="1" a="2"/>'),
-            SVG.format("<g>" * 40 + "</g>" * 40), SVG.format("<g/>" * (score_markup.MOST_ELEMENTS + 1)), "</images><images>",
+            SVG.format("<g>" * 40 + "</g>" * 40), SVG.format("<g/>" * (svg_markup.MOST_ELEMENTS + 1)), "</images><images>",
         ):  # fmt: skip
             with self.assertRaises(NoDrawing, msg=data[:80]):
                 images_of(data.encode())
@@ -301,6 +302,18 @@ class Drawn(trial.Folder):
         wanted[-1] = (8, 5, "rest")
         self.assertEqual(places(drawn(*tune, header=["%%flatbeams 1", "not a line of a header", "L:1/8"])), sorted(wanted))
 
+    def test_a_transposition(self) -> None:
+        """Names of chords move with the notes, which keep their places in the text. Other numbers are refused."""
+        tune = ("X:1", "L:1/4", "K:C", '"Am"CDEF|')
+        for semitones, name in ((2, "Bm"), (-2, "Gm"), (9, "F\u266fm"), (0, "Am")):
+            images = score.score_of(program_found(), Question((), tune, 600, semitones)).images
+            self.assertEqual(places(images), [(3, column, "note") for column in (4, 5, 6, 7)])
+            self.assertIn(name, words(images).replace("#", "\u266f"))
+        self.assertEqual(question_of({"header": [], "tune": ["X:1"], "width": 9, "transpose": -9}).transpose, -9)
+        for wrong in (37, -37, True, "2", 1.5):
+            with self.assertRaises(Refused):
+                question_of({"header": [], "tune": [], "width": 9, "transpose": wrong})
+
     def test_tags_in_texts(self) -> None:
         """They are texts: in a title, in lyrics, in an annotation, in the name of a voice."""
         evil = '<script>alert(1)</script>--><text x="1" y="1">evil</text><!-- &lt;i&gt; & &foo;'
@@ -329,7 +342,7 @@ class Drawn(trial.Folder):
         for line in ("T:a\\012zzz", "T:a\\u000azzz", 'K:C clef="0 0 zzz"', 'C[K:C clef="0 0 zzz"]D', "%%postscript zzz", "%%ps zzz", "I:postscript zzz", "[I:postscript zzz]",
                      "%%beginps\nzzz\n%%endps", "I:beginps\nzzz\nI:endps", '"^a\\012zzz"C', "w:a\\012zzz", "T:a\\) zzz (", "M:) zzz (", '"^a\\\n012zzz"C', 'C[K:D clef=\\\n"0 0 zzz"]D', "T:a\\\n012zzz", "T:\\u005c012zzz"):  # fmt: skip
             tune = ["X:1", *line.split("\n"), "K:C", *line.split("\n"), "CDE"]
-            text = "\n".join([*score_text.header_lines(tune[1:]), *readable(*tune), ""])
+            text = "\n".join([*readable_lines.header_lines(tune[1:]), *readable(*tune), ""])
             self.assertNotRegex(errors_of(text), "svg|PostScript|Symbol", line)
 
     def test_random_tunes(self) -> None:
@@ -461,7 +474,7 @@ class Harm(trial.Folder):
 
 
 ATTACKS = """
-import ctypes, os, resource, signal, socket
+import ctypes, fcntl, os, resource, signal, socket
 from xml.sax.saxutils import escape
 port, victim, folder = %r
 
@@ -485,6 +498,11 @@ def call(name, *words):
     if getattr(libc, name)(*words) < 0:
         raise OSError(ctypes.get_errno(), name)
 
+def own_a_pipe():
+    reading, writing = os.pipe()
+    fcntl.fcntl(reading, fcntl.F_SETOWN, victim)
+    fcntl.fcntl(reading, 10, signal.SIGUSR1)  # F_SETSIG
+
 def write(path):
     with open(path, "w") as file:
         file.write("x")
@@ -498,13 +516,27 @@ KINDS = {
     "spawn": lambda: os.posix_spawn("/bin/true", ["true"], {}),
     "group": lambda: os.setpgid(0, 0),
     "session": os.setsid,
-    "signal": lambda: os.kill(victim, signal.SIGTERM),
+    "signal": lambda: os.kill(victim, signal.SIGCONT),
     "signal to all": lambda: os.kill(-1, 0),
     "limits of another process": lambda: resource.prlimit(victim, resource.RLIMIT_NOFILE, (64, 64)),
     "priority of another process": lambda: os.setpriority(os.PRIO_PROCESS, victim, 19),
     "priority at the disk": lambda: call("syscall", {"x86_64": 251, "aarch64": 30}[os.uname().machine], 1, victim, 3 << 13),
     "policy of another process": lambda: os.sched_setparam(victim, os.sched_param(0)),
     "shared memory": lambda: call("shmget", 0, 4096, 0o1600),
+    "signal by a pipe": own_a_pipe,
+    "memory file": lambda: os.memfd_create("x"),
+    "other memory": lambda: open("/proc/" + str(victim) + "/mem", "rb"),
+    "environment": lambda: open("/proc/" + str(victim) + "/environ", "rb").read(),
+    "mode": lambda: os.chmod(folder + "/secret", 0o666),
+    "mode of an open file": lambda: os.fchmod(os.open(folder, os.O_RDONLY), 0o700),
+    "owner": lambda: os.chown(folder + "/secret", os.getuid(), os.getgid()),
+    "times": lambda: os.utime(folder + "/secret"),
+    "attribute": lambda: os.setxattr(folder + "/secret", "user.x", b"x"),
+    "link": lambda: os.link(folder + "/secret", folder + "/link"),
+    "symbolic link": lambda: os.symlink("secret", folder + "/symbolic"),
+    "rename": lambda: os.rename(folder + "/secret", folder + "/secret"),
+    "folder": lambda: os.mkdir(folder + "/made folder"),
+    "name space": lambda: call("unshare", 0x10000000),
     "read": lambda: open(folder + "/secret").read(),
     "list": lambda: os.listdir(folder),
     "make": lambda: write(folder + "/made"),
@@ -546,13 +578,14 @@ class Walls(Harm):
             self.addCleanup(each.close)
         port = listener.getsockname()[1]
         datagrams.bind(("127.0.0.1", port))
+        self.datagrams = datagrams
         local.bind(str(self.mine / "socket"))
         local.listen()
         self.attacks = ATTACKS % ((port, victim.pid, str(self.mine)),)
 
     def outcomes(self, limits: str) -> dict[str, str]:
-        """What becomes of each attack in a process that first calls these functions of `score_limits`."""
-        script = f"import sys; sys.path.insert(0, {str(Path(score.LIMITS).parent)!r})\nimport score_limits\n"
+        """What becomes of each attack in a process that first calls these functions of `limits`."""
+        script = f"import sys; sys.path.insert(0, {str(Path(score.LIMITS).parent)!r})\nimport limits as score_limits\n"
         script += self.attacks.replace("\nfound =", f"\n{limits}\nfound =") + "print(found)\n"
         asked = subprocess.run([sys.executable, "-I", "-S", "-B", "-c", script], cwd=self.folder, capture_output=True, text=True, timeout=trial.SECONDS)
         self.assertEqual(asked.stderr, "")
@@ -563,8 +596,8 @@ class Walls(Harm):
         return {name for name, outcome in self.outcomes(limits).items() if outcome == "refused"}
 
     def test_all_attacks_are_possible_without_walls(self) -> None:
-        """But for what no first process of a session can do."""
-        self.assertLessEqual(self.refused("import os; os.setsid()"), {"group", "session", "signal to all"})
+        """But for what no first process of a session can do, and what a system has not."""
+        self.assertLessEqual(self.refused("import os; os.setsid()"), {"group", "session", "signal to all", "name space", "attribute", "other memory"})
 
     @unittest.skipIf(not PYTHON, "the system has no python3")
     @unittest.skipIf(not score_limits.landlock_version(), "Linux has no Landlock")
@@ -574,15 +607,51 @@ class Walls(Harm):
         path = self.bin / "abcm2ps"
         path.write_text(f"#!{PYTHON} -IS\n{self.attacks}\nprint({drawing!r}, escape(found), '</text></svg>')\n")
         path.chmod(0o755)
-        self.assertRegex(words(drawn("X:1", "K:C", "C")), r"^\s*(([a-z ]+) refused(; )?){21}\s*$")
+        self.assertRegex(words(drawn("X:1", "K:C", "C")), r"^\s*(([a-z ]+) refused(; )?){35}\s*$")
         self.assertEqual(sorted(os.listdir(self.mine)), ["secret", "socket"])
         self.assertEqual((self.mine / "secret").read_text(), "SECRET")
 
     def test_the_filter_alone(self) -> None:
-        """It needs no Landlock."""
-        reaching = ["tcp", "udp", "unix socket", "pair of sockets", "fork", "spawn", "group", "session", "signal", "signal to all"]
-        reaching += ["limits of another process", "priority of another process", "priority at the disk", "policy of another process", "shared memory"]
-        self.assertEqual(self.refused("assert score_limits.refuse_calls()"), set(reaching))
+        """It needs no Landlock: nothing but reading is possible, and what reads other processes."""
+        possible = {"read", "list", "other memory", "environment"}
+        self.assertEqual({name for name, outcome in self.outcomes("assert score_limits.refuse_calls()").items() if outcome == "done"} - possible, set())
+
+    def test_the_filter_of_a_program_that_writes(self) -> None:
+        """It makes, empties and removes files if the other walls let it, and does no more."""
+        possible = {"read", "list", "other memory", "environment", "make", "empty", "remove", "its own folder"}
+        self.assertEqual({name for name, outcome in self.outcomes("assert score_limits.refuse_calls(True)").items() if outcome == "done"} - possible, set())
+
+    @unittest.skipIf(not PYTHON, "the system has no python3")
+    @unittest.skipIf(not walled_program.outer_program(), "bubblewrap is not installed, or there are no user namespaces")
+    def test_bubblewrap_alone(self) -> None:
+        """It shows no other file and no other process. In its network there is nobody: a datagram goes nowhere."""
+        limits, program = self.bin / "limits.py", self.bin / "abcm2ps"
+        limits.write_text("import os, sys\nprint(flush=True)\nos.execv(sys.argv[2], sys.argv[2:])\n")
+        program.write_text(f"#!{PYTHON} -IS\n{self.attacks}\nprint(found)\n")
+        program.chmod(0o755)
+        found = walled_program.output_of([str(limits), score_limits.DRAWING, str(program)], b"", {}, trial.SECONDS, 1 << 20)
+        outcomes = dict(one.rsplit(" ", 1) for one in found.data.decode().strip().split("; "))
+        others = {"read", "list", "tcp", "unix socket", "signal", "limits of another process", "priority of another process", "policy of another process"}
+        others |= {"signal by a pipe", "other memory", "environment", "priority at the disk", "its own folder"}
+        changing = {"make", "empty", "remove", "mode", "owner", "times", "attribute", "link", "symbolic link", "rename", "folder"}
+        self.assertEqual({name for name in others | changing if outcomes[name] == "done"}, set())
+        self.datagrams.setblocking(False)
+        with self.assertRaises(BlockingIOError):
+            self.datagrams.recv(1)
+        self.assertEqual((found.walls, (self.mine / "secret").read_text()), ({"bubblewrap"}, "SECRET"))
+
+    def test_which_walls_there_are(self) -> None:
+        """The page says so, and what to install."""
+        self.draw('<abc type="N" row="3" col="0" x="1" y="2" width="3" height="4"/>')
+        outer = ["bubblewrap"] if walled_program.outer_program() else []
+        files = ["Landlock"] if score_limits.landlock_version() else []
+        walls = score.score_of(program_found(), Question((), ("X:1", "K:C", "C"), 600)).walls
+        self.assertEqual(walls, f"abcm2ps runs within limits of time and memory, and within: {', '.join([*outer, *files, 'a list of system calls'])}.")
+        self.assertEqual(score.note_on(frozenset(["filter", "files"])), "")
+        self.assertEqual(score.note_on(frozenset(["filter", "bubblewrap"])), "")
+        for is_installed, note in ((True, score.NO_NAMESPACES), (False, score.NO_FOLDERS)):
+            with mock.patch.object(score, "is_outer_installed", lambda is_there=is_installed: is_there):
+                self.assertEqual(score.note_on(frozenset(["filter"])), note)
 
     @unittest.skipIf(score_limits.landlock_version() < 4, "Linux has no Landlock that refuses connections")
     def test_landlock_alone(self) -> None:
@@ -728,6 +797,17 @@ class Limits(Harm):
         self.program("exit 1")
         self.assertIn("no notes", self.ask(scorer)["why"])
 
+    def test_a_process_that_takes_too_long(self) -> None:
+        """Another one replaces it, whatever holds it up, and the tune is not tried again."""
+        scorer = self.scorer()
+        self.program("exec sleep 1000")
+        with mock.patch.object(scorer_module, "SECONDS_OF_THE_PROCESS", 1):
+            late = self.ask(scorer)
+        self.assertEqual(late, {"why": "The process that draws scores took too long for this tune."})
+        self.program("exit 1")
+        self.assertEqual(self.ask(scorer), late)
+        self.assertIn("no notes", self.ask(scorer, 601)["why"])
+
     def test_the_end_while_it_draws(self) -> None:
         """Nothing is left."""
         scorer = Scorer()
@@ -782,15 +862,18 @@ class Limits(Harm):
 
 
 class Unfiltered(Harm):
-    """A system without libseccomp."""
+    """A system without libseccomp and bubblewrap."""
 
     def setUp(self) -> None:
         super().setUp()
         folder, limits = str(Path(score.LIMITS).parent), self.folder / "limits.py"
-        limits.write_text(f"import sys; sys.path.insert(0, {folder!r})\nimport score_limits\nscore_limits.LIBRARY = 'none'\nscore_limits.main()\n")
-        without = mock.patch.object(score, "LIMITS", str(limits))
-        without.start()
-        self.addCleanup(without.stop)
+        limits.write_text(f"import sys; sys.path.insert(0, {folder!r})\nimport limits as score_limits\nscore_limits.LIBRARY = 'none'\nscore_limits.main()\n")
+        without_filter = mock.patch.object(score, "LIMITS", str(limits))
+        without_filter.start()
+        self.addCleanup(without_filter.stop)
+        without_bubblewrap = mock.patch.object(walled_program, "outer_program", str)
+        without_bubblewrap.start()
+        self.addCleanup(without_bubblewrap.stop)
 
     def test_a_note(self) -> None:
         """The score says so."""
@@ -817,4 +900,4 @@ class Scripts(page_in_node.PageScripts):
     """What the page makes of a drawing, in node."""
 
     def test_scripts(self) -> None:
-        self.assert_ok("score_scripts.mjs", 6)
+        self.assert_ok("score/page_score.mjs", 6)

@@ -1,9 +1,12 @@
 """Scores as a PDF: what is in it, what its programs may do, and what someone at the page stores."""
 
+import argparse
 import base64
 import os
 import shutil
 import subprocess
+import threading
+import time
 import unittest
 from pathlib import Path
 from contextlib import ExitStack
@@ -13,12 +16,14 @@ from unittest import mock
 import page_in_node
 import test_page_in_browser
 import test_score
-import test_score_page
+import test_page_score
 import trial
-from abc2midi_live_clients import score_limits, score_pdf
-from abc2midi_live_clients.rows import Json
-from abc2midi_live_clients.score_pdf import INSTALL_GHOSTSCRIPT, PdfMaker
-from abc2midi_live_clients.scorer import INSTALL
+from abc2midi_live_clients.common.json_object import Json
+from abc2midi_live_clients.page.score import limits, pdf as score_pdf
+from abc2midi_live_clients.page.score.pdf import INSTALL_GHOSTSCRIPT, PdfMaker
+from abc2midi_live_clients.page.score.scorer import INSTALL
+from abc2midi_live_clients.page.server import Server
+from abc2midi_live_clients.page.shared_book import SharedBook
 from test_page_copies_in_browser import DOWNLOADS
 
 LACKS = "abcm2ps or Ghostscript is not installed"
@@ -78,6 +83,13 @@ class Made(trial.Folder):
         self.assertEqual((words.count("SECRET"), "x) show (SECRET" in words), (1, True))
 
 
+class SharedBookStub(SharedBook):
+    """A book without a name and without a session, which needs no library."""
+
+    def __init__(self) -> None:
+        self.path, self.run = None, "0"
+
+
 class Walls(test_score.Harm):
     """What a program that is called `gs` can do."""
 
@@ -109,7 +121,7 @@ class Walls(test_score.Harm):
         """It writes there, and its files have a limit."""
         self.assertEqual(self.printed("echo one > ./file; read -r line < ./file; echo $line; ulimit -f; ulimit -t; ulimit -v"), "%PDF\none\n131072\n60\n524288\n")
 
-    @unittest.skipIf(not score_limits.landlock_version(), "Linux has no Landlock")
+    @unittest.skipIf(not limits.landlock_version(), "Linux has no Landlock")
     def test_other_folders(self) -> None:
         """It neither reads nor writes there."""
         secret = self.folder / "secret"
@@ -127,20 +139,37 @@ class Walls(test_score.Harm):
         self.assertIn("Ghostscript failed on these tunes", self.outcome("kill -SEGV $$")["why"])
         self.assertEqual(self.outcome("exit 1")["why"], "These tunes have no notes to draw.")
 
+    def test_the_end_while_a_pdf_is_made(self) -> None:
+        """The server closes, and no process is left."""
+        self.bin_program("abcm2ps", "exec sleep 1000")
+        self.bin_program("gs", "exit 1")
+        with Server(0, SharedBookStub(), argparse.Namespace(open=False, plain_sounds=True)) as server:
+            threading.Timer(1, server.server_close).start()
+            self.assertIn("failed", server.pdfs.answer({"header": [], "tunes": [KESH]})["why"])
+        until = time.monotonic() + trial.SECONDS
+        while self.running():
+            self.assertLess(time.monotonic(), until)
+            time.sleep(0.01)
+
     def test_none(self) -> None:
         """The sentence names what to install."""
         with mock.patch.dict(os.environ, {"PATH": str(self.bin)}):
+            self.assertEqual(PdfMaker().needs(), {"why": INSTALL_GHOSTSCRIPT})
             self.assertEqual(made(KESH), {"why": INSTALL_GHOSTSCRIPT, "missing": True})
+            (self.bin / "gs").touch(0o755)
+            self.assertEqual(PdfMaker().needs(), {"why": ""})
+            (self.bin / "gs").unlink()
             (self.bin / "abcm2ps").unlink()
+            self.assertEqual(PdfMaker().needs(), {"why": INSTALL})
             self.assertEqual(made(KESH), {"why": INSTALL, "missing": True})
 
 
 class Scripts(page_in_node.PageScripts):
     def test_scripts(self) -> None:
-        self.assert_ok("page_score_pdf.mjs", 2)
+        self.assert_ok("score/page_score_pdf.mjs", 2)
 
 
-class Requests(test_score_page.Programs):
+class Requests(test_page_score.Programs):
     """What the server answers."""
 
     drawing = ""
@@ -194,7 +223,7 @@ class Stored(test_page_in_browser.Browser):
 
 
 @unittest.skipUnless(shutil.which("abcm2ps"), "abcm2ps is not installed")
-class Printed(test_score_page.Programs, test_page_in_browser.Browser):
+class Printed(test_page_score.Programs, test_page_in_browser.Browser):
     """Someone without Ghostscript."""
 
     opening = Stored.opening

@@ -1,0 +1,5 @@
+// Bytes in base 64.
+
+/** The bytes that letters in base 64 are. Throws if they are not.
+ * @type {(letters: string) => Uint8Array} */
+export const bytesOfBase64 = (letters) => Uint8Array.from(atob(letters), (letter) => letter.charCodeAt(0));

@@ -1,0 +1,3 @@
+// Lines that end a tune.
+
+export const BLANK = /^[ \t]*$/;

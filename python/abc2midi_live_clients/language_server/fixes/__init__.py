@@ -1,0 +1,1 @@
+"""Quick fixes: what the sentences of faults and hints name."""

@@ -1,0 +1,1 @@
+"""Serves a page in the browser over a tune book."""

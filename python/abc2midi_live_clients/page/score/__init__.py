@@ -1,0 +1,1 @@
+"""The scores of tunes, drawn by `abcm2ps` within limits."""

@@ -1,0 +1,66 @@
+"""Lines that wrap on a narrow screen: their rows in node, and the text with its marks, numbers and caret in a browser."""
+
+import page_in_node
+import test_page_in_browser
+from browser_keys import CONTROL, END, HOME
+
+LONG = "GABc dBAG " * 12 + "&"
+MANY = [line for number in range(1, 60) for line in (f"X:{number}", f"T:Tune {number} with a title that is longer than a row of a phone has letters", "K:G", "GABc dBAG|" * 9, "")]
+PLACES = """
+const area = document.querySelector("textarea"), view = document.querySelector(".scroller");
+const mark = document.querySelector("mark").getBoundingClientRect(), lines = document.querySelector(".lines").getBoundingClientRect();
+return [area.scrollHeight <= area.clientHeight, view.scrollWidth <= view.clientWidth, mark.left >= view.getBoundingClientRect().left, mark.right <= view.getBoundingClientRect().right, Math.round((mark.top - lines.top) / 21)];
+"""  # the area is as high as its text; nothing is to the side; the mark is seen, and in which row it is
+SAME_ROWS = """
+const colours = [...document.querySelectorAll(".colours div")].map((row) => Math.round(row.getBoundingClientRect().height / 21));
+const numbers = document.querySelector(".numbers").textContent.split(/(?<=\\n)(?=\\d)/).map((text) => text.split("\\n").length - 1);
+const lines = document.querySelector("textarea").value.split("\\n").length;
+return [colours.reduce((sum, rows) => sum + rows, 0), numbers.reduce((sum, rows) => sum + rows, 0), Math.round(document.querySelector("textarea").clientHeight / 21), lines];
+"""
+SEEN = """
+const view = document.querySelector(".scroller").getBoundingClientRect(), here = document.querySelector(".here").getBoundingClientRect();
+return here.top >= view.top - 1 && here.bottom <= view.bottom + 1;
+"""
+
+
+class Scripts(page_in_node.PageScripts):
+    def test_scripts(self) -> None:
+        self.assert_ok("editor/page_line_rows.mjs", 4)
+
+
+class Wrapped(test_page_in_browser.Browser):
+    """A phone, and a tune with long lines."""
+
+    opening = f"X:1\nT:{'é’ ' * 30}\nK:G\n{LONG}\nC|\n".encode()
+
+    def test_rows(self) -> None:
+        """Area, colours and numbers have the same rows, and a mark is in its row. In a wide window nothing wraps."""
+        self.wait(lambda: self.text("count") == "1 fault")
+        self.size(390, 844)
+        self.wait(lambda: self.run_script("return document.querySelector('.paper').classList.contains('wraps')"))
+        self.wait(lambda: self.run_script(PLACES)[:4] == [True] * 4)
+        rows = self.wait(lambda: (found := self.run_script(SAME_ROWS)) and len(set(found[:3])) == 1 and found)
+        self.assertGreater(rows[0], rows[3] + 4)
+        self.type(HOME, CONTROL)
+        self.press("%" * 60)
+        self.settled("%" * 60 + self.opening.decode())
+        self.wait(lambda: len(set(self.run_script(SAME_ROWS)[:3])) == 1)
+        self.size(1366, 768)
+        self.wait(lambda: not self.run_script("return document.querySelector('.paper').classList.contains('wraps')"))
+        self.wait(lambda: (found := self.run_script(SAME_ROWS)) and found[1:] == [6, 6, 6])
+
+
+class ManyWrapped(test_page_in_browser.Browser):
+    """A phone, and a book of long lines."""
+
+    opening = "\n".join(MANY).encode()
+
+    def test_the_caret_is_seen(self) -> None:
+        """At the end of the book, at its begin, and where a tune begins that is chosen."""
+        self.size(390, 844)
+        self.wait(lambda: self.run_script("return document.querySelector('.paper').classList.contains('wraps')"))
+        for keys in (END, HOME):
+            self.type(keys, CONTROL)
+            self.wait(lambda: self.run_script(SEEN))
+        self.run_script("document.getElementById('tune-1').dispatchEvent(new MouseEvent('click', { bubbles: true }))")
+        self.wait(lambda: self.text("place").startswith("Line 6,") and self.run_script(SEEN))
