@@ -11,7 +11,7 @@ from pathlib import Path
 from typing import NamedTuple
 
 TOP = Path(__file__).resolve().parent.parent.parent
-sys.path[:0] = [str(TOP / "tests/javascript"), str(TOP / "tests/clients")]
+sys.path[:0] = [str(TOP / folder) for folder in ("tests/javascript", "tests/page/static", "tests/clients/shared")]
 import browser  # noqa: E402
 import common  # noqa: E402
 from file_server import FileServer  # noqa: E402

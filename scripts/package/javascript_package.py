@@ -9,7 +9,7 @@ from pathlib import Path
 
 TOP = Path(__file__).resolve().parent.parent.parent
 SOURCES = TOP / "javascript"
-FAULTS = TOP / "python/abc2midi_live_clients/faults.json"
+FAULTS = TOP / "python/abc2midi_live_clients/common/faults.json"
 MODULE = "abc2midi_live.wasm"
 
 
