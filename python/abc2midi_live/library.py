@@ -142,11 +142,18 @@ class LibrarySession(Session):
         return code
 
     def play(self, number: int) -> Optional[tuple[Track, ...]]:
-        copied = self._copied_play(number)
-        if copied is None:
+        self._check_open()
+        if not 0 <= index(number) <= MOST_NUMBER:
             return None
+        code = self._copy_sizes(number)
+        if code == NOT_FOUND:
+            return None
+        check(code)
+        sizes = self._tracks[: self._count.value]
+        copied = self._copied_play(number, sum(sizes))
+        assert copied is not None  # the number has a file
         entries = entries_in(copied)
-        return tuple(tuple(islice(entries, size)) for size in self.track_sizes(number))
+        return tuple(tuple(islice(entries, size)) for size in sizes)
 
     def play_columns(self, number: int) -> Optional[PlayColumns]:
         """What is played of a number by columns. It is None, or raises, as `play` does."""
@@ -156,15 +163,21 @@ class LibrarySession(Session):
     def track_sizes(self, number: int) -> list[int]:
         """How many entries of a play each track has, for a number that has a file. The first track is the conductor's."""
         self._check_open()
-        check(self._calls.abc_live_tracks(self._here, number, self._tracks, len(self._tracks), self._count_here))
+        check(self._copy_sizes(number))
         return self._tracks[: self._count.value]
 
-    def _copied_play(self, number: int) -> Optional[memoryview]:
-        """The structs of all entries of a number, until the next call. None if no tune owns the number."""
+    def _copy_sizes(self, number: int) -> int:
+        """Copies the sizes of the tracks of a number, and returns the code of the call."""
+        code: int = self._calls.abc_live_tracks(self._here, number, self._tracks, len(self._tracks), self._count_here)
+        return code
+
+    def _copied_play(self, number: int, size: int = 0) -> Optional[memoryview]:
+        """The structs of all entries of a number, until the next call. None if no tune owns the number. There are `size`, if that is
+        known: each call works out the play anew."""
         self._check_open()
         if not 0 <= index(number) <= MOST_NUMBER:
             return None
-        room = self._entries
+        room = self._entries if size <= self._entries.count else Room(CEntry, size)
         code = self._copy_play(number, room)
         if code == SHORT_BUFFER:
             room = Room(CEntry, self._count.value)

@@ -41,7 +41,7 @@ class Fault(NamedTuple):
 
 
 class Work(NamedTuple):
-    """What all edits of a session cost so far: lines scanned, pieces of music folded, and files built."""
+    """What all edits and questions for tokens cost so far: lines scanned, pieces of music folded, and files built."""
 
     scanned: int
     folded: int
@@ -204,7 +204,7 @@ class Session(ABC):
     @property
     @abstractmethod
     def work(self) -> Optional[Work]:
-        """What all edits cost so far, or None over a process, which does not count."""
+        """What all edits and questions for tokens cost so far, or None over a process, which does not count."""
 
     # ---- the end
 

@@ -1,4 +1,4 @@
-"""Looks up the names of functions, types, definitions and clauses in the pages on the proof, and the clauses that they quote."""
+"""Looks up the names of functions, types, definitions and clauses in the pages on the proof, and the clauses that pages quote."""
 
 from __future__ import annotations
 
@@ -14,6 +14,7 @@ from .outcome import Outcome, Outcomes
 DOCUMENTS = ("architecture", "DECISIONS", "glossary", "library", "promises", "verification")
 PAGES = ("README.md", "CONTRIBUTING.md", *(f"docs/{name}.md" for name in DOCUMENTS))
 WITH_CLAUSES = ("docs/promises.md", "docs/verification.md")  # in these a word in brackets is a clause
+WITH_CODE = ("README.md", "docs/verification.md")  # in these a block of code is a clause or a definition
 # Names of std, of the kit's crates, of the system and of languages, which the sources do not declare.
 OTHERS = frozenset(
     """Clone Debug Display Drop Err Global IfErr IfOk MatchResult None Ok OnErr Option Ord Rc Result Some Vec VecDeque
@@ -106,11 +107,11 @@ def names() -> Outcomes:
 
 
 def clauses() -> Outcomes:
-    """Each piece of code that docs/verification.md quotes word for word: its paragraphs are in the sources, but for the blanks."""
-    page = TOP / "docs/verification.md"
-    for block in (block for block in fenced_blocks(page) if block.kind == "rust") if page.exists() else ():
-        for piece in re.split(r"^\.\.$|\n\s*(?=ensures|requires|pub )", block.text, flags=re.M):
-            words = " ".join(piece.split())
-            if words:
-                is_there = words in sources().words
-                yield Outcome(f"docs/verification.md: {words[:80]}", None if is_there else "the sources have no such clause")
+    """Each piece of code that a page quotes word for word: its paragraphs are in the sources, but for the blanks."""
+    for page in WITH_CODE:
+        for block in (block for block in fenced_blocks(TOP / page) if block.kind == "rust"):
+            for piece in re.split(r"^\.\.$|\n\s*(?=ensures|requires|pub )", block.text, flags=re.M):
+                words = " ".join(piece.split())
+                if words:
+                    is_there = words in sources().words
+                    yield Outcome(f"{page}: {words[:80]}", None if is_there else "the sources have no such clause")

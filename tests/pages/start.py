@@ -10,7 +10,7 @@ from .markdown import INDENTED, TOP, text_of
 from .outcome import Outcome, Outcomes, difference
 
 PAGE = TOP / "README.md"
-COMMAND = "./abc2midi_live --dir ~/midi "
+COMMAND = "./abc2midi_live --dir /tmp "
 SECONDS = 300
 
 

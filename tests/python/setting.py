@@ -8,7 +8,7 @@ from typing import Optional
 
 TOP = Path(__file__).resolve().parent.parent.parent
 PACKAGE = TOP / "python"
-sys.path[:0] = [str(PACKAGE), str(TOP / "tests/clients")]
+sys.path[:0] = [str(PACKAGE), str(TOP / "tests/clients/shared")]
 
 program: Optional[str] = None
 library: Optional[str] = None

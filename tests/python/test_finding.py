@@ -54,6 +54,20 @@ class Found(setting.Room):
         with self.assertRaises(ProgramMissing):
             finding.find_program()
 
+    def test_a_digest_without_what_was_built(self) -> None:
+        """The digest of the present sources alone is no build."""
+        self.place("python/abc2midi_live")
+        self.write("scripts/build/digest_of_sources", "#!/bin/sh\necho now\n")
+        self.write("crates/program/out/program.digest", "now\n")
+        self.write("out/c_library/digest", "now\n")
+        with self.assertRaisesRegex(ProgramMissing, "run ./build"):
+            finding.find_program()
+        with self.assertRaisesRegex(LibraryMissing, "run ./build"):
+            finding.find_library()
+        self.write("crates/program/out/program").chmod(0o644)
+        with self.assertRaisesRegex(ProgramMissing, "run ./build"):
+            finding.find_program()
+
     def test_in_an_installation(self) -> None:
         self.place("prefix/share/abc2midi_live/abc2midi_live")
         self.write("prefix/share/abc2midi_live/version", "1.2.3\n")

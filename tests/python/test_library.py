@@ -66,6 +66,17 @@ class OverTheLibrary(sessions.Sessions):
         self.assertEqual((opened.scanned, opened.built, after.scanned, after.built), (5, 1, 6, 2))
         self.assertGreater(after.folded, opened.folded)
 
+    def test_counters_of_tokens(self) -> None:
+        session = LibrarySession(setting.library)
+        self.addCleanup(session.close)
+        session.insert(1, sessions.TUNE)
+        asks: list[Callable[[], object]] = [lambda: session.tokens(4), lambda: session.token_columns(4)]
+        for ask in asks:
+            before = session.work
+            ask()
+            assert before
+            self.assertEqual(session.work, Work(before.scanned + 1, before.folded, before.built))
+
     def test_tokens(self) -> None:
         """The rows are those of the reference model, which is no part of this repository. They have each kind."""
         session = self.session((HERE / "tokens.abc").read_bytes().split(b"\n")[:-1])
@@ -163,6 +174,16 @@ class OverTheLibrary(sessions.Sessions):
         with self.assertRaises(IndexError):
             session.token_columns(0)
 
+    def test_a_play_of_as_many_voices_as_a_file_has(self) -> None:
+        """Each has a track after the first one, which has no notes."""
+        session = self.begin()
+        self.addCleanup(session.close)
+        session.insert(1, ["X:1", "K:C", *(line for voice in range(1, 16) for line in (f"V:{voice}", "C" * voice))])
+        play, columns = session.play(1), session.play_columns(1)
+        assert play and columns
+        self.assertEqual([len(track) for track in play], list(range(16)))
+        self.assertEqual((session.track_sizes(1), len(columns.places)), (list(range(16)), 120))
+
     def test_plays_of_no_number(self) -> None:
         session = self.session(sessions.TUNE)
         self.assertEqual([session.play(number) for number in (0, -1, 2, 2**32 + 1)], [None] * 4)
@@ -173,6 +194,18 @@ class OverTheLibrary(sessions.Sessions):
         self.assertEqual(play, ((), (Entry(0, 240, EntryKind.NOTE, 60, 80, False, 4, 1, 2),)))
         with self.assertRaises(AttributeError):
             play[1][0].on = 1  # type: ignore[misc]
+
+    def test_a_long_play_is_worked_out_twice(self) -> None:
+        """Once for the sizes of its tracks, and once for its entries: each call works it out anew."""
+        session = self.begin()
+        self.addCleanup(session.close)
+        session.insert(1, [b"X:1", b"K:C", b"C" * 5000])
+        calls = mock.Mock(wraps=session._calls)
+        with mock.patch.object(session, "_calls", calls):
+            play = session.play(1)
+        assert play
+        self.assertEqual([len(track) for track in play], [0, 5000])
+        self.assertEqual((calls.abc_live_tracks.call_count, calls.abc_live_play.call_count), (1, 1))
 
     def test_an_interrupted_edit(self) -> None:
         """The lines are those of the library, whether the edit was made or not."""
@@ -202,8 +235,11 @@ class OverTheLibrary(sessions.Sessions):
         session = LibrarySession(setting.library)
         inner = session._session
         session.insert(1, sessions.TUNE)
-        for call in (lambda: session.titles, session.close):
-            self.assertRegex(self.call_on_another_thread(call)[0], "thread")
+        calls: list[Callable[[], object]] = [lambda: session.titles, lambda: session.numbers, lambda: session.faults, session.close]
+        calls += [lambda: session.play(1), lambda: session.play_columns(1), lambda: session.track_sizes(1), lambda: session.output(1)]
+        calls += [lambda: session.tokens(1), lambda: session.token_columns(1), lambda: session.delete(1, 1)]
+        for call in calls:
+            self.assertRegex("".join(self.call_on_another_thread(call)), "thread")
         self.assertEqual((session.numbers, inner.state), ([1], 1))
         session.close()
         self.assertEqual((inner.state, self.call_on_another_thread(session.close)), (0, []))

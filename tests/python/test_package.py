@@ -86,9 +86,9 @@ class Installed(setting.Room):
 
     def checkout(self) -> Path:
         """A copy of the files of which the package is built."""
-        for part in ("python", "crates/program/src"):
+        for part in ("python", "page", "crates/program/src"):
             left_out = shutil.ignore_patterns("build", "*.egg-info", "__pycache__")
-            shutil.copytree(setting.TOP / part, self.folder / "checkout" / part, ignore=left_out)
+            shutil.copytree(setting.TOP / part, self.folder / "checkout" / part, symlinks=True, ignore=left_out)
         return self.folder / "checkout"
 
     def test_the_commands_of_the_page(self) -> None:
@@ -187,7 +187,7 @@ class Commands(setting.Room):
     def test_the_watcher_has_the_sentences_of_the_faults(self) -> None:
         self.add_program()
         done = self.tried("abc2midi_live-watch", "book.abc", "--dir", "midi", "--once")
-        sentences = {row["name"]: row["wrong"] for row in json.loads((setting.TOP / "python/abc2midi_live_clients/faults.json").read_text("utf-8"))}
+        sentences = {row["name"]: row["wrong"] for row in json.loads((setting.TOP / "python/abc2midi_live_clients/common/faults.json").read_text("utf-8"))}
         self.assertIn(sentences["LooseTie"].rstrip("."), done.stdout)
         self.assertEqual((self.folder / "midi/1.mid").read_bytes()[:4], b"MThd")
 
@@ -199,7 +199,7 @@ class Commands(setting.Room):
         self.addCleanup(page.terminate)
         assert page.stdout
         address = page.stdout.readline().strip()
-        for name, has in (("", b"<html"), ("page.js", b"import")):
+        for name, has in (("", b"<html"), ("shell/application.js", b"import")):
             with urllib.request.urlopen(address + name, timeout=120) as answer:
                 self.assertIn(has, answer.read())
 
