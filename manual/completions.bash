@@ -7,9 +7,10 @@ _abc2midi_live() {
     case $before in
     --dir | --to) mapfile -t COMPREPLY < <(compgen -d -- "$word") ;;
     --play) mapfile -t COMPREPLY < <(compgen -c -- "$word") ;;
-    --program | --library | --report) mapfile -t COMPREPLY < <(compgen -f -- "$word") ;;
+    --program | --library | --report | --losses) mapfile -t COMPREPLY < <(compgen -f -- "$word") ;;
     --catalogue) mapfile -t COMPREPLY < <(compgen -W 'csv jsonl' -- "$word") ;;
-    --port | --jobs | --scheduler) ;;
+    --number-by) mapfile -t COMPREPLY < <(compgen -W 'number place' -- "$word") ;;
+    --port | --jobs | --scheduler | --include | --exclude) ;;
     *)
         if [[ $word == -* ]]; then
             mapfile -t COMPREPLY < <(compgen -W "$("$1" --help 2>&1 | grep -oE -- '--[a-z][a-z-]*' | sort -u)" -- "$word")

@@ -14,7 +14,8 @@ for command in abc2midi_live abc2midi_live-watch abc2midi_live-page abc2midi_liv
     complete -c $command -n 'string match -q -- "-*" (commandline -ct)' -a '(__abc2midi_live_options)'
     complete -c $command -n '__abc2midi_live_before --dir --to' -a '(__fish_complete_directories)'
     complete -c $command -n '__abc2midi_live_before --play' -a '(__fish_complete_command)'
-    complete -c $command -n '__abc2midi_live_before --program --library --report' -F
+    complete -c $command -n '__abc2midi_live_before --program --library --report --losses' -F
     complete -c $command -n '__abc2midi_live_before --catalogue' -a 'csv jsonl'
-    complete -c $command -n 'not __abc2midi_live_before --dir --to --play --program --library --report --catalogue --port --jobs --scheduler; and not string match -q -- "-*" (commandline -ct)' -a '(__fish_complete_suffix .abc)'
+    complete -c $command -n '__abc2midi_live_before --number-by' -a 'number place'
+    complete -c $command -n 'not __abc2midi_live_before --dir --to --play --program --library --report --losses --catalogue --number-by --port --jobs --scheduler --include --exclude; and not string match -q -- "-*" (commandline -ct)' -a '(__fish_complete_suffix .abc)'
 end

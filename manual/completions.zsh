@@ -5,9 +5,10 @@ local -a options
 case ${words[CURRENT-1]} in
 --dir|--to) _files -/ ;;
 --play) _command_names -e ;;
---program|--library|--report) _files ;;
+--program|--library|--report|--losses) _files ;;
 --catalogue) compadd -- csv jsonl ;;
---port|--jobs|--scheduler) ;;
+--number-by) compadd -- number place ;;
+--port|--jobs|--scheduler|--include|--exclude) ;;
 *)
     if [[ ${words[CURRENT]} == -* ]]; then
         options=(${(fu)"$(${words[1]} --help 2>&1 | grep -oE -- '--[a-z][a-z-]*')"})
