@@ -1,4 +1,4 @@
-"""Shows how far a run of `rt ci` is: crates and functions done, of how many, and about how long the rest takes."""
+"""Shows how far a run of `rt ci` is: crates and functions proved, of how many, and about how long the rest takes."""
 
 from __future__ import annotations
 
@@ -12,26 +12,10 @@ import time
 from pathlib import Path
 from typing import Callable, Optional, TextIO
 
-import processor_share
-from build_plan import Crate, schedule
-from processor_share import Share, times_below
+from crate_list import Crate
 
 DONE = re.compile(r"rt: (\w+) (proved|is kept)\b")
 SECONDS_BETWEEN_LOOKS = 1.0
-SECONDS_OF_TRUST = 60.0  # before any crate is done, the estimates count as much as crates that took these seconds, as estimated
-MOST_CHANGE = 0.25  # the part by which the time left may change between two crates, beside the time that passed
-OTHER_WORK = 2.0  # a build takes up to this factor longer if the processors do other work, too
-
-
-def processors() -> int:
-    """The processors that this process may use, as `taskset` sets them."""
-    return len(os.sched_getaffinity(0))
-
-
-def free_memory() -> int:
-    """The memory that is free, in bytes."""
-    rows = Path("/proc/meminfo").read_text(encoding="utf-8").splitlines()
-    return next(int(row.split()[1]) * 1024 for row in rows if row.startswith("MemAvailable:"))
 
 
 def minutes(seconds: float) -> str:
@@ -42,77 +26,32 @@ def minutes(seconds: float) -> str:
     return f"{whole} min" if whole < 60 else f"{whole // 60} h {whole % 60} min"
 
 
-def range_of(seconds: float) -> str:
-    """The time of a run in words, from that on free processors to that beside other work: '25 to 50 min'."""
-    low, high = minutes(seconds), minutes(OTHER_WORK * seconds)
-    number, _, unit = low.partition(" ")
-    return f"{number if high.endswith(f' {unit}') and ' h ' not in high else low} to {high}"
-
-
 class Progress:
-    """What is done of a run, and an estimate of what is left, corrected by the crates that are done and by the share of the
-    processors that the run gets."""
+    """What is done of a run. The rest takes as long for a function as those that the run proved."""
 
-    def __init__(self, crates: dict[str, Crate], share: Optional[Share] = None, now: Callable[[], float] = time.monotonic):
-        self.crates = crates
-        self.share = share or Share()
-        self.now = now
+    def __init__(self, crates: dict[str, Crate], now: Callable[[], float] = time.monotonic):
+        self.crates, self.now = crates, now
         self.since = now()
-        self.processors = processors()
-        self.done: dict[str, float] = {}  # by name: how many seconds the run had earned then
-        self.kept: frozenset[str] = frozenset()
-        self.line: Optional[tuple[float, float]] = None  # when a crate was proved last, and what was left then
-
-    @property
-    def passed(self) -> float:
-        return self.now() - self.since
+        self.kept: set[str] = set()  # proved by earlier runs
+        self.proved: set[str] = set()
 
     def read(self, line: str) -> Optional[str]:
         """Takes a line of the run, and returns the name of the crate that it reports as done, if it does."""
         found = DONE.match(line)
-        if not found or found[1] not in self.crates or found[1] in self.done:
+        if not found or found[1] not in self.crates or found[1] in self.kept | self.proved:
             return None
-        self.share.look(self.passed)
-        self.done[found[1]] = self.share.earned
-        if found[2] == "is kept":
-            self.kept |= {found[1]}
-        else:
-            self.line = self.passed, self.left()
+        (self.kept if found[2] == "is kept" else self.proved).add(found[1])
         return found[1]
 
-    def look(self) -> None:
-        """Reads the share of the processors again, unless it has just been read."""
-        if self.passed - self.share.looked >= processor_share.SECONDS_BETWEEN_LOOKS:
-            self.share.look(self.passed)
-
-    def left(self) -> float:
-        """The seconds that are left. Since the last crate they change by a part at most, beside the time that passed, and in the first
-        minute by less."""
-        left = self.estimate()
-        if self.line and left:
-            since, then = self.passed - self.line[0], self.line[1]
-            part = MOST_CHANGE * min(since / 60, 1.0)
-            left = min(max(left, (1 - part) * max(then - since, 0.0)), (1 + part) * then)
-        return left
-
-    def estimate(self) -> float:
-        """The seconds that are left by the estimates, at the pace of the crates that are proved and with the share of late."""
-        plan = schedule(self.crates, self.processors, dict.fromkeys(self.kept, 0.0))
-        proved = [name for name in self.done if name not in self.kept]
-        pace = (SECONDS_OF_TRUST + sum(self.done[name] for name in proved)) / (SECONDS_OF_TRUST + sum(plan.ends[name] for name in proved))
-        earned = self.share.earned + self.share.recent * (self.passed - self.share.looked)
-        ends = schedule(self.crates, self.processors, {name: end / pace for name, end in self.done.items()}, earned / pace).ends
-        end = max(ends.values(), default=0.0)
-        if any(crate.edits for crate in self.crates.values()):
-            end = max(end, plan.work)
-        return max(pace * end - earned, 0.0) / self.share.recent
+    def functions(self, names: set[str]) -> int:
+        return sum(self.crates[name].functions for name in names)
 
     def words(self) -> str:
         """One line: what is done, how long it took, and what is left."""
-        functions = sum(self.crates[name].functions for name in self.done)
-        of = sum(crate.functions for crate in self.crates.values())
-        words = f"{len(self.done)} of {len(self.crates)} crates, {functions:,} of {of:,} functions, {minutes(self.passed)}"
-        return f"{words}, about {minutes(self.left())} left" if self.left() or len(self.done) < len(self.crates) else words
+        done, passed = self.kept | self.proved, self.now() - self.since
+        words = f"{len(done)} of {len(self.crates)} crates, {self.functions(done):,} of {self.functions({*self.crates}):,} functions, {minutes(passed)}"
+        left, proved = self.functions({*self.crates} - done), self.functions(self.proved)
+        return f"{words}, about {minutes(passed * left / proved)} left" if left and proved else words
 
 
 class Display:
@@ -133,7 +72,6 @@ class Display:
     def look(self) -> None:
         """Writes the line anew, unless output has just passed."""
         with self.writing:
-            self.progress.look()
             has_room = not self.makes_way or time.monotonic() - self.last > SECONDS_BETWEEN_LOOKS / 2
             if self.is_terminal and has_room:
                 width = os.get_terminal_size(self.to.fileno()).columns - 1
@@ -163,7 +101,7 @@ def run(words: list[str], folder: Path, crates: dict[str, Crate], out: TextIO) -
 
     ticking = threading.Thread(target=tick, daemon=True)
     with subprocess.Popen(words, cwd=folder, stdout=subprocess.PIPE, stderr=subprocess.STDOUT, text=True) as child:
-        display = Display(Progress(crates, Share(lambda: times_below(child.pid))), sys.stderr, out)
+        display = Display(Progress(crates), sys.stderr, out)
         ticking.start()
         assert child.stdout
         try:
