@@ -4,9 +4,10 @@
 import { onResize } from "../base/on_resize.js";
 import { onceAFrame } from "../base/once_a_frame.js";
 import { commandOf } from "../base/shortcut_names.js";
-import { difference } from "../text/line_edits.js";
+import { applyEdits, difference } from "../text/line_edits.js";
 import { movedSelection, selectionAfter } from "../text/selection.js";
 import { LineRows } from "./line_rows.js";
+import { isLong, overwriting, partIn, placeOfKey, replacementOf, selectedText } from "./long_selection.js";
 
 /** @typedef {import("../text/selection.js").Place} Place
  * @typedef {import("../text/selection.js").Selection} Selection
@@ -44,7 +45,7 @@ export class Sheet {
     /** @type {[first: number, last: number]} */
     this.drawn = [0, 0]; // the lines that the layers have drawn
     /** @type {Selection | null} */
-    this.away = null; // the selection, while its lines are not in the area
+    this.away = null; // the selection, while its lines are not in the area, or not all of a long one
     /** @type {(first: number, last: number) => FaultRow[]} */
     this.faultsOf = () => []; // from a line, to a line: the same list until one of them is another
     /** @type {(line: number) => void} */
@@ -56,8 +57,8 @@ export class Sheet {
     /** @type {Selection | null} */
     this.before_input = null; // the selection before what is typed
     this.inputType = ""; // of what is typed, as the browser names it
-    /** @type {{ lines: string[], selection: Selection } | null} */
-    this.composition = null; // the browser composes a letter: the area is left alone. The text before it
+    /** @type {{ lines: string[], selection: Selection, from: Place | null } | null} */
+    this.composition = null; // the browser composes a letter: the area is left alone. The text before it, and where it begins in a long selection
     /** @type {(isComposing: boolean) => void} */
     this.composed = () => {}; // a letter is composed, or no more
     this.changed = false; // since the caret was watched last
@@ -86,6 +87,8 @@ export class Sheet {
     area.addEventListener("compositionend", () => this.compose(false));
     area.addEventListener("blur", () => this.compose(false));
     area.addEventListener("beforeinput", (event) => this.before(event));
+    area.addEventListener("copy", (event) => this.copy(event));
+    area.addEventListener("cut", (event) => this.copy(event));
     area.addEventListener("keydown", (event) => this.key(event));
     area.addEventListener("mousedown", (event) => this.point(event)); // a finger that scrolls presses no button of a mouse
     area.addEventListener("pointermove", (event) => this.pointed(this.faultUnder(event), event));
@@ -200,7 +203,7 @@ export class Sheet {
     const { start, end, direction } = within(selection, lines);
     this.first = Math.max(0, first);
     this.last = Math.min(lines.length, last);
-    if (start.line !== end.line) {
+    if (start.line !== end.line && !isLong(selection)) {
       this.first = Math.min(this.first, start.line);
       this.last = Math.max(this.last, end.line + 1);
     }
@@ -210,7 +213,8 @@ export class Sheet {
     this.before_input = null;
     this.away = inside ? null : { start, end, direction };
     this.area.classList.toggle("away", !inside);
-    if (inside) this.area.setSelectionRange(this.offset(start), this.offset(end), /** @type {"forward" | "backward"} */ (direction));
+    const part = partIn({ start, end, direction }, lines, this.first, this.last);
+    if (part) this.area.setSelectionRange(this.offset(part.start), this.offset(part.end), /** @type {"forward" | "backward"} */ (direction));
     else this.area.setSelectionRange(0, 0);
     this.draw();
   }
@@ -252,10 +256,17 @@ export class Sheet {
    * @type {(isComposing: boolean) => void} */
   compose(isComposing) {
     if (isComposing === this.composing) return;
-    if (isComposing) this.composition = { lines: this.text.lines, selection: this.selection() };
+    if (isComposing) this.beginComposition();
     else this.endComposition();
     this.composed(isComposing);
     if (!isComposing) this.look();
+  }
+
+  /** Remembers the text before it. Of a long selection the browser replaces the part in the area, and `endComposition` the rest. */
+  beginComposition() {
+    const selection = this.selection(), from = isLong(this.away) ? this.typed().start : null;
+    this.composition = { lines: this.text.lines, selection, from };
+    if (from) this.away = null;
   }
 
   /** All that was composed is one step. */
@@ -263,7 +274,20 @@ export class Sheet {
     this.read();
     const before = this.composition;
     this.composition = null;
-    if (before) this.text.composed(before.lines, before.selection, this.typed());
+    if (!before) return;
+    const { lines, selection, from } = before;
+    this.text.composed(lines, selection, from ? this.composeOver(lines, selection, from) : this.typed());
+  }
+
+  /** What was composed from a place on replaces all of a long selection of the text before. Returns the selection after it.
+   * @type {(lines: string[], selection: Selection, from: Place) => Selection} */
+  composeOver(lines, selection, from) {
+    const words = selectedText({ start: from, end: this.typed().end }, this.text.lines);
+    const { edit, after } = overwriting(selection, lines, words);
+    const now = difference(this.text.lines, applyEdits(lines, [edit]));
+    if (now) this.text.compose(now.start, now.stop, now.put);
+    this.refresh(after);
+    return after;
   }
 
   /** Lines became others elsewhere. The selection stays with its text, and the lines that are seen stay where they are.
@@ -330,7 +354,34 @@ export class Sheet {
     } else {
       this.before_input = this.selection();
       this.inputType = event.inputType;
+      if (isLong(this.away) && !this.composing && !this.area.readOnly) this.replaceLong(event);
     }
+  }
+
+  /** What is typed replaces a long selection, of which the browser has a part alone.
+   * @type {(event: InputEvent) => void} */
+  replaceLong(event) {
+    event.preventDefault();
+    const words = replacementOf(event);
+    if (words !== null) this.overwrite(words);
+  }
+
+  /** Words replace the selection, as a step.
+   * @type {(words: string) => void} */
+  overwrite(words) {
+    const before = this.selection(), { edit, after } = overwriting(before, this.text.lines, words);
+    this.text.change([edit], before, after);
+    this.inputType = "";
+    this.refresh(after);
+  }
+
+  /** Someone copies a long selection, or cuts it out.
+   * @type {(event: ClipboardEvent) => void} */
+  copy(event) {
+    if (!isLong(this.away)) return;
+    event.preventDefault();
+    event.clipboardData?.setData("text/plain", selectedText(this.selection(), this.text.lines));
+    if (event.type === "cut" && !this.area.readOnly) this.overwrite("");
   }
 
   /** Undoes, or does again.
@@ -360,12 +411,22 @@ export class Sheet {
     else if (command && key === "a") this.select({ line: 0, column: 0 }, { line: end, column: Infinity });
     else if (command && key === "z") this.history(!event.shiftKey);
     else if (command && key === "y") this.history(false);
-    else {
+    else if (event.altKey || !this.leave(key, event.shiftKey)) {
       const acts = !(command && "fghs".includes(key)) && !/^(Shift|Control|Alt|Meta|Tab|Escape|F\d+)$/.test(key);
       if (this.away && acts) this.back();
       return;
     }
     event.preventDefault();
+  }
+
+  /** A key ends a long selection, or moves its end. Returns whether it does.
+   * @type {(key: string, isExtended: boolean) => boolean} */
+  leave(key, isExtended) {
+    if (!isLong(this.away)) return false;
+    const selection = this.selection(), { start, end, direction } = selection;
+    const to = placeOfKey(key, selection, this.caret(), this.text.lines, isExtended);
+    if (to) this.select(isExtended ? (direction === "backward" ? end : start) : to, to);
+    return to !== null;
   }
 
   /** Moves the caret, or the end of the selection, to a place.
@@ -396,8 +457,9 @@ export class Sheet {
   /** Someone points into the area, which is where the caret goes. With Shift the selection begins where it was, which may be outside
    * of the area.
    * @type {(event: MouseEvent) => void} */
-  point({ shiftKey }) {
+  point({ shiftKey, button }) {
     const { away } = this;
+    if (button && isLong(away)) return; // the menu of the browser acts on the selection
     this.away = null;
     this.area.classList.remove("away");
     if (!away || !shiftKey) return;
@@ -460,10 +522,10 @@ export class Sheet {
 
   /** The caret may have moved. */
   watch() {
-    if (this.away) return;
+    if (this.away && !isLong(this.away)) return;
     const { line, column } = this.caret();
     this.placed({ line, column });
-    const near = (line < this.first + EDGE && this.first > 0) || (line >= this.last - EDGE && this.last < this.text.lines.length);
+    const near = !this.away && ((line < this.first + EDGE && this.first > 0) || (line >= this.last - EDGE && this.last < this.text.lines.length));
     if (near && !this.composing && document.activeElement === this.area) this.load(line - FAR, line + FAR);
     if (line === this.line && !this.changed) return;
     this.line = line;
