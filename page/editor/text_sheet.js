@@ -71,7 +71,7 @@ export class Sheet {
     this.drawnFaults = null; // what was drawn last
     this.coverSoon = onceAFrame(() => this.cover());
     this.height = parseFloat(getComputedStyle(this.area).lineHeight); // of a row
-    this.rows = new LineRows((line) => Math.round(this.measured(line).height / this.height));
+    this.rows = new LineRows((lines) => this.measured(lines).map(({ height }) => Math.round(height / this.height)));
     this.digits = 0; // of the largest number
     this.listen();
   }
@@ -127,9 +127,9 @@ export class Sheet {
     return this.topOf(line) - this.topOf(this.first);
   }
 
-  /** Lets lines wrap if the window is narrow, after as many letters as have room. The line at the top stays there. */
+  /** Lets lines wrap if the window is narrow; a row has as many letters as have room. The line at the top stays there. */
   fit() {
-    const [first] = this.seen(), isNarrow = globalThis.innerWidth <= NARROW, letter = isNarrow ? this.measured(LETTERS).width / LETTERS.length : 0;
+    const [first] = this.seen(), isNarrow = globalThis.innerWidth <= NARROW, letter = isNarrow ? this.measured([LETTERS])[0].width / LETTERS.length : 0;
     const width = letter ? Math.max(1, Math.floor((this.scroller.clientWidth - this.numbers.offsetWidth - SIDES) / letter)) : 0;
     if (this.composing || !this.rows.wrap(width)) return;
     this.area.wrap = width ? "soft" : "off";
@@ -143,16 +143,19 @@ export class Sheet {
     this.load(from - MARGIN, to + MARGIN);
   }
 
-  /** The box of a line.
-   * @type {(line: string) => DOMRect} */
-  measured(line) {
-    const row = document.createElement("div"), letters = document.createElement("span");
-    letters.textContent = line;
-    row.append(letters);
-    this.marks.append(row);
-    const { width } = letters.getBoundingClientRect(), { height } = row.getBoundingClientRect();
-    row.remove();
-    return new DOMRect(0, 0, width, height);
+  /** How wide the letters of some lines are, and how high their rows. The browser lays out all of them at once.
+   * @type {(lines: string[]) => { width: number, height: number }[]} */
+  measured(lines) {
+    const rows = lines.map((line) => {
+      const row = document.createElement("div"), letters = document.createElement("span");
+      letters.textContent = line;
+      row.append(letters);
+      return row;
+    });
+    this.marks.append(...rows);
+    const sizes = rows.map((row) => ({ width: row.children[0].getBoundingClientRect().width, height: row.getBoundingClientRect().height }));
+    for (const row of rows) row.remove();
+    return sizes;
   }
 
   /** Scrolls.
@@ -456,7 +459,7 @@ export class Sheet {
 
   /** Someone points into the area, which is where the caret goes. With Shift the selection begins where it was, which may be outside
    * of the area.
-   * @type {(event: MouseEvent) => void} */
+   * @type {(event: { shiftKey: boolean, button?: number }) => void} */
   point({ shiftKey, button }) {
     const { away } = this;
     if (button && isLong(away)) return; // the menu of the browser acts on the selection
@@ -520,9 +523,12 @@ export class Sheet {
     if (right - left + scrollLeft <= clientWidth) this.scroller.scrollLeft = 0;
   }
 
-  /** The caret may have moved. */
+  /** The caret may have moved. A finger that stays on a word selects it, without a button of a mouse. */
   watch() {
-    if (this.away && !isLong(this.away)) return;
+    if (this.away && !isLong(this.away)) {
+      if (!this.area.selectionEnd || document.activeElement !== this.area) return;
+      this.point({ shiftKey: false });
+    }
     const { line, column } = this.caret();
     this.placed({ line, column });
     const near = !this.away && ((line < this.first + EDGE && this.first > 0) || (line >= this.last - EDGE && this.last < this.text.lines.length));
@@ -615,7 +621,7 @@ export class Sheet {
     this.numbers.replaceChildren(numbers);
   }
 
-  /** A mark below the place of a fault: the text before it, not to be seen, gives its place.
+  /** A mark below the place of a fault: the text before it, not to be seen, gives its place, with that after it if the line wraps.
    * @type {(fault: FaultRow) => HTMLElement} */
   mark(fault) {
     const [number, start, end] = fault;
@@ -625,20 +631,22 @@ export class Sheet {
     mark.textContent = line.slice(start, Math.max(end, start + 1)) || " ";
     if (fault[4]) mark.className = "hint";
     row.append(line.slice(0, start), mark);
+    if (this.rows.width) row.append(line.slice(Math.max(end, start + 1)));
     return row;
   }
 
   /** Where a place is in the window.
    * @type {(place: Place) => DOMRect} */
   boxOf({ line, column }) {
-    const row = document.createElement("div"), here = document.createElement("span");
+    const row = document.createElement("div"), words = document.createTextNode(`${this.text.lines[line]}\u200b`), here = document.createRange();
     row.style.top = `${this.topInArea(line)}px`;
-    here.textContent = "\u200b";
-    row.append(this.text.lines[line].slice(0, column), here);
+    row.append(words);
     this.marks.append(row);
-    const box = here.getBoundingClientRect();
+    here.setStart(words, column);
+    here.setEnd(words, column + 1);
+    const { left, top, height } = here.getBoundingClientRect();
     row.remove();
-    return box;
+    return new DOMRect(left, top, 0, height);
   }
 
   /** The faults at which a mouse points.

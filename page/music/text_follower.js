@@ -128,6 +128,7 @@ export class Follower {
     const words = this.text.lines[line] ?? "", mark = document.createElement("i");
     mark.textContent = words.slice(place.from, place.to);
     row.append(words.slice(0, place.from), mark);
+    if (this.sheet.rows.width) row.append(words.slice(place.to)); // where a line wraps depends on what comes next
     return row;
   }
 

@@ -1,11 +1,12 @@
 // The book of a page without a server: its text, what the compiler finds in it, and its file. It is asked as a server is.
 
-import { difference as rowsDifference, without } from "../link/finding_rows.js";
+import { changed, difference as rowsDifference, without } from "../link/finding_rows.js";
 import { joined } from "../link/version_ancestry.js";
 import { difference } from "../text/line_edits.js";
 import { BookText } from "./book_text.js";
 import { CompiledBook } from "./compiled_book.js";
 import { SENTENCES } from "./fault_sentences.js";
+import { firstNumberHints } from "./first_number.js";
 
 /** @typedef {import("../link/finding_rows.js").Edit} Edit
  * @typedef {import("./compiled_book.js").Rows} Rows
@@ -52,6 +53,9 @@ export class WorkerBook {
     this.file = null;
     /** @type {Rows} */
     this.rows = { faults: [], tunes: [] };
+    /** @type {import("../link/finding_rows.js").FaultRow[]} */
+    this.hintRows = []; // at a text without tunes, the only hints of this page
+    this.hints = 0; // how often there were others than those that moved with their lines
     this.isUnsaved = false;
     /** @type {Map<string, string>} */
     this.addresses = new Map(); // of the files that were read, by their names
@@ -89,6 +93,7 @@ export class WorkerBook {
       if (name === "disk") return this.onDisk();
       if (name === "edit") return this.edit(asked);
       if (name === "view") return this.view(asked);
+      if (name === "hints") return { version: this.version, hints: this.hints, rows: this.hintRows };
       if (name === "load") return this.load(asked);
       if (name === "save") return this.save(asked);
       if (name === "save-as") return this.saveElsewhere();
@@ -149,15 +154,20 @@ export class WorkerBook {
   async snapshot() {
     await this.compiled.become(this.text);
     this.rows = await this.compiled.rows(this.text);
-    const { name, id, text, has, rows, state } = this;
-    return { name, id, lines: text.shownLines, has, ...rows, hintRows: [], sentences: SENTENCES, ...state };
+    this.hintRows = this.foundHints;
+    const { name, id, text, has, rows, hintRows, state } = this;
+    return { name, id, lines: text.shownLines, has, ...rows, hintRows, sentences: SENTENCES, ...state };
+  }
+
+  get foundHints() {
+    return this.rows.tunes.length ? [] : firstNumberHints(this.text.shownLines);
   }
 
   get state() {
-    const { run, version, moment, text, isUnsaved, saved, present } = this;
+    const { run, version, moment, text, isUnsaved, saved, present, hints } = this;
     return {
       run, version, moment, mark: text.mark, returns: text.returns, letters: text.letters, unsaved: isUnsaved,
-      saved: saved.name, disk: present.name, trouble: "", windows: 1, hints: 0,
+      saved: saved.name, disk: present.name, trouble: "", windows: 1, hints,
     };
   }
 
@@ -192,9 +202,23 @@ export class WorkerBook {
     Object.assign(this, { text, rows, version: this.version + 1, has: joined(this.has, has), isUnsaved: !text.isSame(this.saved.text, edit.start) });
     const milliseconds = Math.round(10 * (performance.now() - since)) / 10;
     this.changed();
+    this.hint(edit);
     const { version, moment, isUnsaved: unsaved } = this;
     const writing = String(version); // a name of its own for each change
     return { version, moment, window, writing, has, edit, unsaved, written, removed, milliseconds, faults, tunes };
+  }
+
+  /** Looks for hints after an edit. If they are others, the window hears so when it has the edit.
+   * @type {(edit: Edit) => void} */
+  hint(edit) {
+    const moved = changed(this.hintRows, edit, { at: 0, out: 0, put: [] });
+    this.hintRows = this.foundHints;
+    if (JSON.stringify(moved) === JSON.stringify(this.hintRows)) return;
+    this.hints += 1;
+    void this.inTurn(async () => {
+      await new Promise((done) => setTimeout(done));
+      this.heard({ state: this.state });
+    });
   }
 
   /** Makes another text that of the book, which the window did not type.

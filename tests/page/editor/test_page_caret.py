@@ -53,14 +53,26 @@ class Caret(test_page_in_browser.Browser):
         self.run_script("Object.assign(window, { taps: 0 }); document.querySelector('textarea').addEventListener('mousedown', () => (taps += 1))")
         area = self.driver.find_element("css selector", ".scroller").rect
         middle = {"x": area["x"] + 200, "y": area["y"] + area["height"] / 2}
-        self.driver.execute_cdp_cmd("Emulation.setTouchEmulationEnabled", {"enabled": True})
-        self.addCleanup(self.driver.execute_cdp_cmd, "Emulation.setTouchEmulationEnabled", {"enabled": False})
+        self.fingers()
         self.wait(lambda: self.swipe(middle))
         self.assertEqual(self.run_script("return [document.getElementById('place').textContent, taps]"), ["Line 10, column 3", 0])
         self.press("z")
         self.wait(lambda: self.lines_of_book()[9] == "L9z")
         self.wait(lambda: self.swipe(middle))
         self.wait(lambda: self.tap(middle) > 200)
+
+    def test_a_finger_that_stays_selects_a_word(self) -> None:
+        """Also where the caret is not: what is typed then replaces that word."""
+        self.long_book(10)
+        area = self.driver.find_element("css selector", ".scroller").rect
+        middle = {"x": area["x"] + 200, "y": area["y"] + area["height"] / 2}
+        self.fingers()
+        self.wait(lambda: self.swipe(middle))
+        left = {**middle, "x": self.run_script("return document.querySelector('textarea').getBoundingClientRect().left") + 12}
+        number = int(self.wait(lambda: self.stay(left))[1:])
+        self.press("z")
+        self.wait(lambda: self.lines_of_book()[number] == "z")
+        self.assertEqual([line for n, line in enumerate(self.lines_of_book()) if line != f"L{n}"], ["z"])
 
     def test_shift_and_a_click_after_scrolling_select_from_the_caret(self) -> None:
         self.long_book(10)
@@ -90,6 +102,18 @@ class Caret(test_page_in_browser.Browser):
         self.touch("touchEnd")
         time.sleep(0.1)
         return int(self.run_script("return Number(/Line (\\d+)/.exec(document.getElementById('place').textContent)[1])"))
+
+    def stay(self, at: dict[str, float]) -> str:
+        """Touches a word for more than a second. Returns what is selected then."""
+        self.touch("touchStart", at)
+        time.sleep(1.2)
+        self.touch("touchEnd")
+        return str(self.run_script("const { value, selectionStart, selectionEnd } = document.querySelector('textarea'); return value.slice(selectionStart, selectionEnd)"))
+
+    def fingers(self) -> None:
+        """Lets the browser hear fingers."""
+        self.driver.execute_cdp_cmd("Emulation.setTouchEmulationEnabled", {"enabled": True})
+        self.addCleanup(self.driver.execute_cdp_cmd, "Emulation.setTouchEmulationEnabled", {"enabled": False})
 
     def touch(self, kind: str, *points: dict[str, float]) -> None:
         self.driver.execute_cdp_cmd("Input.dispatchTouchEvent", {"type": kind, "touchPoints": list(points)})

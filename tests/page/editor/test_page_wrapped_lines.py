@@ -21,11 +21,39 @@ SEEN = """
 const view = document.querySelector(".scroller").getBoundingClientRect(), here = document.querySelector(".here").getBoundingClientRect();
 return here.top >= view.top - 1 && here.bottom <= view.bottom + 1;
 """
+BROKEN = """
+const [, title] = document.querySelectorAll(".colours div"), text = title.textContent, rows = [];
+const letters = document.createTreeWalker(title, NodeFilter.SHOW_TEXT), range = document.createRange();
+for (let node = letters.nextNode(); node; node = letters.nextNode()) {
+  for (let n = 0; n < node.length; n += 1) {
+    range.setStart(node, n);
+    range.setEnd(node, n + 1);
+    rows.push(range.getBoundingClientRect().top);
+  }
+}
+return [new Set(rows).size, [...text.matchAll(/\\S+/g)].filter(({ index, 0: word }) => rows[index] !== rows[index + word.length - 1]).map(([word]) => word)];
+"""  # how many rows the second line has, and which of its words are in two
+CARETS = """
+const mirror = document.querySelector(".colours"), area = document.querySelector("textarea"), found = [];
+const { left, top } = area.getBoundingClientRect(), [, title] = mirror.children, text = title.textContent;
+for (const word of ["gentlemen", "fiddlers"]) {
+  const letters = document.createTreeWalker(title, NodeFilter.SHOW_TEXT), range = document.createRange();
+  for (let node = letters.nextNode(), at = 0; node; at += node.length, node = letters.nextNode()) {
+    const n = text.indexOf(word) - at;
+    if (n < 0 || n >= node.length) continue;
+    range.setStart(node, n);
+    range.setEnd(node, n + 1);
+  }
+  const box = range.getBoundingClientRect();
+  found.push([word, box.left + 2, box.top + 10]);
+}
+return found;
+"""  # where the layer of colours shows the begin of some words
 
 
 class Scripts(page_in_node.PageScripts):
     def test_scripts(self) -> None:
-        self.assert_ok("editor/page_line_rows.mjs", 4)
+        self.assert_ok("editor/page_line_rows.mjs", 6)
 
 
 class Wrapped(test_page_in_browser.Browser):
@@ -48,6 +76,26 @@ class Wrapped(test_page_in_browser.Browser):
         self.size(1366, 768)
         self.wait(lambda: not self.run_script("return document.querySelector('.paper').classList.contains('wraps')"))
         self.wait(lambda: (found := self.run_script(SAME_ROWS)) and found[1:] == [6, 6, 6])
+
+
+class Words(test_page_in_browser.Browser):
+    """A phone, and a title of many words, one of which is longer than a row."""
+
+    title = f"T:Two gentlemen of the county and their fiddlers - play (slowly) what nobody knows|and {'L' * 60} end"
+    opening = f"X:1\n{title}\nK:G\nC|\n".encode()
+
+    def test_no_word_is_in_two_rows(self) -> None:
+        """But for one that is longer than a row. A click on a word, as the layer of colours shows it, is in that word."""
+        self.size(390, 844)
+        self.wait(lambda: self.run_script("return document.querySelector('.paper').classList.contains('wraps')"))
+        rows, broken = self.wait(lambda: (found := self.run_script(BROKEN)) and found[0] > 3 and found)
+        self.assertEqual([word for word in broken if len(word) < 30], [])
+        self.assertEqual(len(broken), 1)
+        self.wait(lambda: len(set(self.run_script(SAME_ROWS)[:3])) == 1)
+        for word, x, y in self.run_script(CARETS):
+            for kind in ("mousePressed", "mouseReleased"):
+                self.driver.execute_cdp_cmd("Input.dispatchMouseEvent", {"type": kind, "x": x, "y": y, "button": "left", "clickCount": 1})
+            self.wait(lambda: self.text("place") == f"Line 2, column {self.title.index(word) + 1}")
 
 
 class ManyWrapped(test_page_in_browser.Browser):

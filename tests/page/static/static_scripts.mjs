@@ -40,6 +40,9 @@ const from = (name) => import(pathToFileURL(`${folder}/${name}.js`));
 const { BookLock } = await from("static/book_lock");
 const { BookStore, ChangedElsewhere } = await from("static/book_store");
 const { BookText } = await from("static/book_text");
+const { firstNumberHints } = await from("static/first_number");
+const { Book } = await from("link/host_book");
+const { HintReader } = await from("link/hint_reader");
 const { CompiledBook } = await from("static/compiled_book");
 const { Files } = await from("dialogs/book_saving");
 const { Keeper } = await from("static/book_keeper");
@@ -294,6 +297,34 @@ await run({
   async "the second tune of a number has no file"() {
     const { book } = await opened("X:1\nX:2\nX:1\n");
     same((await book.ask("book")).tunes.map((row) => row[3]), [true, true, false]);
+  },
+
+  async "a text without a number has a hint at its first music"() {
+    const sentence = "this text has no tune, so there is no file; a tune begins with a line `X:1`";
+    const at = (...lines) => firstNumberHints(lines).map(([line, start, end, name, hint]) => [line, start, end === lines[line].length, name, hint === sentence]);
+    const hint = (line) => [[line, 0, true, "NoTune", true]];
+    same(at("Hello", "", "T:a", "M:4/4", "CDE|FGA|"), hint(4));
+    same(at("From: me", "To: you", "", "T:a", "M:4/4", "K:D", "% slow", "%%MIDI program 1", 'd "Am', "ABc|"), hint(8));
+    same(at("K:D", "", "I am no music", "", '|:"Am"!trill!{d}[Ace]2 [M:3/4](3abc z2:|'), hint(4));
+    same([at("\ufeffT:Air", "w:la|la|la|"), at("", " \t", "Hello | you")], [hint(0), hint(2)]);
+    same([at(""), at("", "  "), at("ABc|\rdef|"), at("A\0B\0c\0|\0")], [[], [], [], []]);
+  },
+
+  async "the window reads that hint when it is another, and none where a tune begins"() {
+    const { book, link, type } = await opened("Hello\n\nABc|\n"), known = new Book(), reader = new HintReader(book, link, known);
+    const rows = () => known.hints.map(([line, , end]) => [line, end]);
+    known.open(await book.ask("book"));
+    link.changed = (change) => known.change(change);
+    link.told = () => reader.look();
+    same(rows(), [[2, 4]]);
+    await type(2, 2, "T:Air", "K:C");
+    same(rows(), [[4, 4]]); // it moved with its line
+    await type(4, 5, "ABc|def|");
+    await until(() => JSON.stringify(rows()) === "[[4,8]]");
+    await type(2, 2, "X:1");
+    await until(() => rows().length === 0);
+    await type(2, 3);
+    await until(() => JSON.stringify(rows()) === "[[4,8]]");
   },
 
   async "a line that is too long is a comment for the compiler, and a fault here"() {

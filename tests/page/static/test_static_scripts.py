@@ -76,7 +76,7 @@ class StaticScripts(common.Room):
         return [json.loads(line) for line in ran.stdout.splitlines()]
 
     def test_the_book_and_links(self) -> None:
-        self.assert_ok(["node", str(HERE / "static_scripts.mjs"), str(self.page)], 38)
+        self.assert_ok(["node", str(HERE / "static_scripts.mjs"), str(self.page)], 40)
 
     def test_random_edits_leave_the_bytes_that_the_served_page_leaves(self) -> None:
         chance = random.Random(1)
