@@ -1,16 +1,17 @@
 // The dialog that deletes, moves, numbers and sorts the tunes of the book, and takes in those of another book. Each is one step.
 
-import { button, field, find } from "../base/elements.js";
+import { base64Of } from "../base/base64.js";
+import { button, field, find, show } from "../base/elements.js";
 import { counted } from "../base/plural.js";
 import { movedSelection, selectionAt } from "../text/selection.js";
-import { linesOfFile, merged } from "../tunes/merged_books.js";
+import { linesOfFile, merged, titled } from "../tunes/merged_books.js";
 import { deleted, moved, renumbered, sorted } from "../tunes/tune_order.js";
 
 /** @typedef {import("../text/line_edits.js").Replacement} Replacement
  * @typedef {import("../text/selection.js").Selection} Selection */
 
 export class BookTunesDialog {
-  /** @param {Omit<import("./tune_dialog.js").Parts, "server">} parts
+  /** @param {import("./tune_dialog.js").Parts} parts
    * @param {import("../tunes/caret_tune.js").CaretTune} caretTune
    * @param {() => void} needText shows the text */
   constructor(parts, caretTune, needText) {
@@ -29,6 +30,9 @@ export class BookTunesDialog {
     find("order-sort").addEventListener("click", () => this.sort());
     find("order-merge").addEventListener("click", () => field("order-file").click());
     field("order-file").addEventListener("change", () => void this.merge());
+    show(find("order-midi"), Boolean(parts.server.offers.midi));
+    find("order-midi").addEventListener("click", () => field("order-midi-file").click());
+    field("order-midi-file").addEventListener("change", () => void this.takeMidi());
   }
 
   /** The lines at which the tunes begin. */
@@ -116,17 +120,40 @@ export class BookTunesDialog {
 
   /** Puts the tunes of a file at the end. */
   async merge() {
-    const input = field("order-file"), file = input.files?.[0], { findings, sheet } = this.parts;
+    const file = await picked("order-file"), others = file && this.added(linesOfFile(file.bytes));
     if (!file) return;
-    const bytes = new Uint8Array(await file.arrayBuffer()), lines = sheet.text.lines;
-    input.value = ""; // the same file can be picked again
-    const found = merged(lines, findings.tunes.map(([, number]) => number), linesOfFile(bytes));
-    if (!found) return this.end(`${file.name} has no tune.`);
-    const { edit, tunes, renumbered: others } = found, first = { line: edit.start + (edit.start ? 1 : 0), column: 0 };
-    const words = others ? `, ${others} of them with another number` : "";
-    void this.change([edit], `Took in ${counted(tunes, "tune")} of ${file.name}${words}.`, selectionAt(first));
+    if (!others) return this.end(`${file.name} has no tune.`);
+    const words = others.renumbered ? `, ${others.renumbered} of them with another number` : "";
+    void this.change([others.edit], `Took in ${counted(others.tunes, "tune")} of ${file.name}${words}.`, others.first);
+  }
+
+  /** Puts the tune of a MIDI file at the end, as the server reads it. */
+  async takeMidi() {
+    const file = await picked("order-midi-file");
+    if (!file) return;
+    const answer = await this.parts.server.ask("midi-tune", { data: base64Of(file.bytes) }).catch((error) => ({ why: `Not read: ${error.message}.` }));
+    const found = answer.lines && this.added(titled(answer.lines, file.name));
+    if (!found) return this.end(answer.why ?? "Each number is used.");
+    void this.change([found.edit], `Took in ${file.name}, as midi2abc reads it.${answer.note && ` ${answer.note}`}`, found.first);
+  }
+
+  /** The edit that puts other lines at the end of the text, and the selection at their first tune; null if they have none.
+   * @type {(others: string[]) => import("../tunes/merged_books.js").Merge & { first: Selection } | null} */
+  added(others) {
+    const { findings, sheet } = this.parts, found = merged(sheet.text.lines, findings.tunes.map(([, number]) => number), others);
+    return found && { ...found, first: selectionAt({ line: found.edit.start + (found.edit.start ? 1 : 0), column: 0 }) };
   }
 }
 
 /** @type {(row: import("../link/finding_rows.js").TuneRow) => string} */
 const nameOf = ([, number, title]) => `tune ${number}${title && ` ${title}`}`;
+
+/** The file that was picked, null if none was. The same file can be picked again.
+ * @type {(id: string) => Promise<{ name: string, bytes: Uint8Array } | null>} */
+async function picked(id) {
+  const input = field(id), file = input.files?.[0];
+  if (!file) return null;
+  const bytes = new Uint8Array(await file.arrayBuffer());
+  input.value = "";
+  return { name: file.name, bytes };
+}

@@ -26,7 +26,7 @@ export class Server {
     this.lost = new AbortController(); // ends what was asked of a server that was lost since
     this.renewed = () => {}; // the server was started again: it has another token
     this.called = "server";
-    this.offers = { saving: /** @type {const} */ ("folder"), score: true, zip: true };
+    this.offers = { saving: /** @type {const} */ ("folder"), score: true, zip: true, midi: true, codes: true };
   }
 
   /** The server has the text also when the window goes. */

@@ -24,6 +24,9 @@ import { TuneBar } from "./tune_bar.js";
  * @property {import("../base/tooltip.js").Tip} tip
  * @property {(words: string) => void} say */
 
+/** @type {import("./midi_file.js").Score} */
+const NO_SCORE = { division: 480, notes: [], tempos: [{ tick: 0, second: 0, each: 0.5 / 480 }], meters: [], bars: [], end: 0, voices: 0, tracks: [] };
+
 export class Music {
   /** @param {Parts} parts */
   constructor({ server, link, sheet, findings, seen, caretTune, tip, say }) {
@@ -98,6 +101,14 @@ export class Music {
   describe() {
     this.bar.describe();
     this.transport.refresh();
+  }
+
+  /** Lets keys sound for a quarter note, with the instrument of the last note of the tune.
+   * @type {(keys: number[]) => void} */
+  touch(keys) {
+    const score = this.shown.score ?? NO_SCORE, { program } = score.notes.at(-1) ?? { program: 0 };
+    const notes = keys.map((key) => ({ start: 0, end: score.division, key, velocity: 90, program, drum: false, voice: 0 }));
+    void this.player.touch(score, notes);
   }
 
   /** The tune of the score, null if the text has it no more.

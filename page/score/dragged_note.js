@@ -1,11 +1,14 @@
-// A note of the score that is dragged up or down by the mouse: its text gets the letter of the line or the space where it is dropped.
+// A note of the score, or one of a chord, that is dragged up or down by the mouse: its text gets the letter of the line or the space where it
+// is dropped.
 
 import { noteOf, wordsOfNote } from "../tunes/pitch_names.js";
 
 /** @typedef {import("./score_view.js").Cover} Cover
- * @typedef {{ line: number, column: number, kind: string }} Note */
+ * @typedef {{ line: number, column: number }} Place */
 
 const NOTE = /(?:\^\^?|__?|=)?[A-Ga-g][',]*/y;
+const CHORD = /\[(?![A-Za-z]:)[^\]|[]*\]/y;
+const IN_CHORD = /"[^"]*"|![^!]*!|\{[^}]*\}|((?:\^\^?|__?|=)?[A-Ga-g][',]*)/g; // words, decorations and grace notes have letters, too
 const STEP = 3; // units of the drawing from a line to a space: abcm2ps draws lines 6 apart
 const LEAST = 3; // pixels that the mouse moves before it drags: about a step of a drawing in its usual size
 const LOWEST = -35, HIGHEST = 42; // indexes of letters that a file has keys for, with room for signs
@@ -22,6 +25,22 @@ export function draggedNote(text, column, steps) {
   return text.slice(0, column) + wordsOfNote(index, null) + text.slice(column + word.length);
 }
 
+/** The columns of the notes of the chord at a column, from the lowest one on; of none if no chord is there.
+ * @type {(text: string, column: number) => number[]} */
+export function chordColumns(text, column) {
+  CHORD.lastIndex = column;
+  const notes = [...(CHORD.exec(text)?.[0] ?? "").matchAll(IN_CHORD)].filter(([, note]) => note !== undefined);
+  const found = notes.map(({ index = 0, 1: note }) => ({ column: column + index, height: noteOf(note)?.index ?? 0 }));
+  return found.sort((one, other) => one.height - other.height).map((one) => one.column);
+}
+
+/** Which head is nearest to a height.
+ * @type {(heads: number[], y: number) => number} */
+export function nearest(heads, y) {
+  const ways = heads.map((head) => Math.abs(head - y));
+  return ways.indexOf(Math.min(...ways));
+}
+
 export class NoteDrag {
   /** @param {import("./score_view.js").Score} staves
    * @param {import("../editor/text_sheet.js").Sheet} sheet
@@ -31,8 +50,10 @@ export class NoteDrag {
     this.view = view;
     this.sheet = sheet;
     this.say = say;
-    /** @type {{ element: SVGGraphicsElement, note: Note, y: number, each: number, steps: number, isMoving: boolean } | null} */
-    this.drag = null;
+    /** @type {{ cover: SVGGraphicsElement, head: number | null, place: Place, y: number, each: number, steps: number } | null} */
+    this.drag = null; // `head` is how far down a head of a chord is
+    /** @type {SVGGraphicsElement | null} */
+    this.moving = null; // what moves: the cover of a note, or of a head
     this.wasMoved = false; // the next click ends a drag
     view.addEventListener("pointerdown", (event) => this.begin(event));
     view.addEventListener("pointermove", (event) => this.move(event));
@@ -45,11 +66,14 @@ export class NoteDrag {
   /** A finger scrolls the score.
    * @type {(event: PointerEvent) => void} */
   begin({ target, button, pointerType, clientY }) {
-    const { note } = /** @type {Cover} */ (target), element = /** @type {SVGGraphicsElement} */ (target);
+    const { note } = /** @type {Cover} */ (target), cover = /** @type {SVGGraphicsElement} */ (target);
     this.wasMoved = false;
-    const isOld = this.view.getAttribute("aria-busy") === "true", line = note && this.sheet.text.lines[note.line];
-    if (button !== 0 || pointerType === "touch" || note?.kind !== "note" || isOld || draggedNote(line ?? "", note.column, 0) === null) return;
-    this.drag = { element, note, y: clientY, each: STEP * (element.getScreenCTM()?.d ?? 1), steps: 0, isMoving: false };
+    const isOld = this.view.getAttribute("aria-busy") === "true", { d = 1, f = 0 } = cover.getScreenCTM?.() ?? {};
+    if (button !== 0 || pointerType === "touch" || note?.kind !== "note" || isOld) return;
+    const text = this.sheet.text.lines[note.line] ?? "", columns = chordColumns(text, note.column), at = nearest(note.heads, (clientY - f) / d);
+    const isChord = columns.length > 0 && columns.length === note.heads.length, column = isChord ? columns[at] : note.column;
+    if (draggedNote(text, column, 0) === null) return;
+    this.drag = { cover, head: isChord ? note.heads[at] : null, place: { line: note.line, column }, y: clientY, each: STEP * d, steps: 0 };
   }
 
   /** The view has the pointer while a note moves, and not before: a click is on its note.
@@ -58,31 +82,32 @@ export class NoteDrag {
     const { drag } = this;
     if (!drag) return;
     const way = drag.y - clientY;
-    if (!drag.isMoving && Math.abs(way) >= LEAST) {
-      drag.isMoving = true;
+    if (!this.moving && Math.abs(way) >= LEAST) {
+      this.moving = drag.head === null ? drag.cover : headOf(drag.cover, drag.head);
       this.view.setPointerCapture?.(pointerId);
     }
-    if (!drag.isMoving) return;
+    if (!this.moving) return;
     drag.steps = Math.round(way / drag.each);
-    drag.element.style.transform = `translateY(${-STEP * drag.steps}px)`;
-    drag.element.classList.add("score-dragged");
+    this.moving.style.transform = `translateY(${-STEP * drag.steps}px)`;
+    this.moving.classList.add("score-dragged");
   }
 
   /** @type {(isDropped: boolean) => void} */
   end(isDropped) {
-    const { drag } = this;
-    this.drag = null;
+    const { drag, moving } = this;
+    this.drag = this.moving = null;
     if (!drag) return;
-    drag.element.style.transform = "";
-    drag.element.classList.remove("score-dragged");
-    this.wasMoved = drag.isMoving;
-    if (isDropped && drag.steps) this.dropped(drag.note, drag.steps);
+    if (moving) moving.style.transform = "";
+    moving?.classList.remove("score-dragged");
+    if (moving !== drag.cover) moving?.remove();
+    this.wasMoved = moving !== null;
+    if (isDropped && drag.steps) this.dropped(drag.place, drag.steps);
   }
 
   /** Writes a note where it was dropped, in a step of its own.
-   * @type {(note: Note, steps: number) => void} */
-  dropped({ line, column }, steps) {
-    const { sheet, say } = this, { text } = sheet, place = { line, column }, put = draggedNote(text.lines[line], column, steps);
+   * @type {(place: Place, steps: number) => void} */
+  dropped(place, steps) {
+    const { sheet, say } = this, { text } = sheet, { line, column } = place, put = draggedNote(text.lines[line], column, steps);
     if (put === null) return say("No file has a note that high or low.");
     const after = { start: place, end: place, direction: "forward" };
     text.change([{ start: line, taken: [text.lines[line]], put: [put] }], sheet.selection(), after);
@@ -95,4 +120,14 @@ export class NoteDrag {
     if (this.wasMoved) event.stopPropagation();
     this.wasMoved = false;
   }
+}
+
+/** An element over a head of a chord, beside the one that covers the chord.
+ * @type {(cover: SVGGraphicsElement, y: number) => SVGGraphicsElement} */
+function headOf(cover, y) {
+  const head = /** @type {SVGGraphicsElement} */ (cover.cloneNode());
+  head.setAttribute("y", String(y - STEP));
+  head.setAttribute("height", String(2 * STEP));
+  cover.after(head);
+  return head;
 }

@@ -4,7 +4,7 @@
 /** A node of a drawing, as the server sends it: its tag, its attributes, and what is in it; or a text.
  * @typedef {[tag: string, attributes: Record<string, any>, ...inside: any[]]} Node
  * @typedef {string | Node} Content
- * @typedef {{ element: SVGElement, row: number, column: number, kind: string, page: Page }} DrawnPlace */
+ * @typedef {{ element: SVGElement, row: number, column: number, kind: string, heads: number[], page: Page }} DrawnPlace */
 
 export const SVG = "http://www.w3.org/2000/svg";
 const TAGS = new Set(["g", "defs", "path", "ellipse", "circle", "line", "rect", "text", "tspan", "use"]);
@@ -34,10 +34,10 @@ export class Page {
     for (const node of nodes) {
       const [tag, attributes, ...inside] = node;
       if (tag === "place") {
-        const { row, column, kind, x, y, width, height } = attributes;
+        const { row, column, kind, x, y, width, height, heads = [] } = attributes;
         const element = made("rect", { class: "score-place", rx: "2", x, y, width, height });
         this.covers.set(node, element);
-        places.push({ element, row, column, kind, page: this });
+        places.push({ element, row, column, kind, heads, page: this });
       } else if (typeof node !== "string") {
         this.cover(inside, places);
       }

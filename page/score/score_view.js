@@ -286,11 +286,12 @@ export class Score {
 class Note {
   /** @param {DrawnTune} tune
    * @param {import("./score_elements.js").DrawnPlace} place */
-  constructor(tune, { row, column, kind, element, page }) {
+  constructor(tune, { row, column, kind, heads, element, page }) {
     this.tune = tune;
     this.row = row;
     this.column = column;
     this.kind = kind;
+    this.heads = heads; // how far down their centres are, from the lowest one on
     this.element = element;
     this.page = page;
   }

@@ -32,6 +32,7 @@ import { HintReader } from "../link/hint_reader.js";
 import { Book } from "../link/host_book.js";
 import { Link } from "../link/host_link.js";
 import { Seen } from "../link/tokens_and_plays.js";
+import { KeyboardNotes } from "../music/keyboard_notes.js";
 import { Music } from "../music/music_panel.js";
 import { SetPlayer } from "../music/set_player.js";
 import { Transposition } from "../music/transposition.js";
@@ -104,6 +105,7 @@ export class Application {
     new Colours(sheet, seen);
     new Signs(sheet, /** @type {HTMLDialogElement} */ (find("signs")));
     const changing = { server, link, findings, sheet, say, undoKey };
+    new KeyboardNotes({ ...changing, sound: (keys) => this.music.touch(keys) });
     new TransposeDialog(changing);
     new TidyDialog(changing);
     this.bookTunes = new BookTunesDialog(changing, this.caretTune, () => this.viewMenu.needText());

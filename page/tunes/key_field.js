@@ -12,6 +12,7 @@ const LISTED = /^(?:(?:\^\^?|__?|=)[A-Ga-g])+$/;
 const PROPERTY = /=|[+-]8$|^(?:treble|bass|alto|tenor|perc)[1-5]?$/;
 const TONICS = ["C", "C#", "Cb", "D", "D#", "Db", "E", "Eb", "F", "F#", "G", "G#", "Gb", "A", "A#", "Ab", "B", "Bb"]; // in a list, the letter D alone chooses D
 const MOST_SHARPS = 7;
+const SHARPENED = [3, 0, 4, 1, 5, 2, 6]; // the letters F C G D A E B, counted from C: in this order sharps come, and flats in the other one
 /** @type {Record<string, number>} */
 const MODES = { lyd: 1, maj: 0, ion: 0, mix: -1, dor: -2, min: -3, aeo: -3, phr: -4, loc: -5 };
 
@@ -51,6 +52,16 @@ export function signatureOf({ tonic, mode, words }) {
 export function sharpsOf({ tonic, mode }) {
   const word = mode.trim(), { index, pitch } = pitchOf(tonic), alteration = pitch - pitchOf(tonic[0]).pitch;
   return [0, 2, 4, -1, 1, 3, 5][index] + 7 * alteration + (word === "m" ? MODES.min : MODES[word.slice(0, 3).toLowerCase()] ?? 0);
+}
+
+/** The alterations of the letters C to B in a key that sets its signature, in semitones.
+ * @type {(key: Key) => number[]} */
+export function alterationsOf(key) {
+  const sharps = key.isExplicit || !key.tonic ? 0 : sharpsOf(key), order = sharps < 0 ? [...SHARPENED].reverse() : SHARPENED;
+  const altered = new Set(order.slice(0, Math.abs(sharps)));
+  const found = Array.from({ length: 7 }, (_, letter) => (altered.has(letter) ? Math.sign(sharps) : 0));
+  for (const { index, sign } of key.words.flatMap(listedIn)) found[index] = sign;
+  return found;
 }
 
 /** Whether a key is not refused for its sharps or flats.

@@ -24,6 +24,13 @@ function textOf(bytes) {
   }
 }
 
+/** The lines of a tune with the title of a name of a file.
+ * @type {(lines: string[], name: string) => string[]} */
+export function titled(lines, name) {
+  const title = name.replace(/\.[^.]*$/, "").replace(/[\0-\x1f]/g, " ").trim(), at = lines.findIndex((line) => line.startsWith("T:"));
+  return title && at >= 0 ? lines.with(at, `T:${title}`) : lines;
+}
+
 /** The edit that puts the tunes of other lines at the end of a book, whose tunes have some numbers; null if those lines have no tune, or
  * no number is left.
  * @type {(lines: string[], numbers: number[], others: string[]) => Merge | null} */

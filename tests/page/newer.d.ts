@@ -24,3 +24,19 @@ interface WakeLockSentinel extends EventTarget {
 interface WakeLock {
   request(type: "screen"): Promise<WakeLockSentinel>;
 }
+
+/** A keyboard that is connected by MIDI. */
+interface MIDIInput {
+  readonly name: string | null;
+  readonly state: "connected" | "disconnected";
+  onmidimessage: ((event: { data: Uint8Array | null }) => void) | null;
+}
+
+interface MIDIAccess {
+  readonly inputs: Map<string, MIDIInput>;
+  onstatechange: (() => void) | null;
+}
+
+interface Navigator {
+  readonly requestMIDIAccess?: () => Promise<MIDIAccess>;
+}

@@ -179,16 +179,14 @@ class Request(BaseHTTPRequestHandler):
         return name == "font" or bool(font and (program or samples))
 
     def post(self, name: Optional[str]) -> None:
-        """Follows an edit, looks at lines and a tune, saves the book or a copy, loads the book from disk, or draws tunes."""
+        """Follows an edit, looks at lines and a tune, saves the book or a copy, loads the book from disk, draws tunes, or reads a MIDI file."""
         book = self.server.book
         if name == "score":
             self.send(self.server.scorer.answer(self.body()), "application/json")
             return
-        if name == "pdf":
-            self.send_json(self.server.pdfs.answer(self.body()))
-            return
         saves = {"save": book.save, "save-in-utf-8": book.save_in_utf8, "save-as": book.save_as}
-        known = {"edit": book.edit, "view": book.view, **saves, "load": book.load}
+        others = {"pdf": self.server.pdfs.answer, "midi-tune": self.server.midi_files.answer}
+        known = {"edit": book.edit, "view": book.view, **saves, "load": book.load, **others}
         follow = known.get(name or "")
         if follow is None:
             raise Refused(404, "There is nothing of that name.")

@@ -7,6 +7,7 @@ import time
 from ..common.faults import sentence_pairs
 from .book_keys import book_key, proof
 from .guarded_server import GuardedServer
+from .midi_tune import MidiReader
 from .request_handler import Request
 from .score.pdf import PdfMaker
 from .score.scorer import Scorer
@@ -23,7 +24,7 @@ class Server(GuardedServer):
     """The server of one book."""
 
     def __init__(self, port: int, book: SharedBook, words: argparse.Namespace):
-        self.scorer, self.pdfs = Scorer(), PdfMaker()  # first: a server whose port is taken is closed at once
+        self.scorer, self.pdfs, self.midi_files = Scorer(), PdfMaker(), MidiReader()  # first: a server whose port is taken is closed at once
         super().__init__(port, Request)
         self.book = book
         self.ends_alone: bool = words.open
@@ -39,10 +40,11 @@ class Server(GuardedServer):
         return proof(self.key, who, self.server_port, self.book.run, nonce)
 
     def server_close(self) -> None:
-        """Ends the server, and what draws scores and makes PDFs for it."""
+        """Ends the server, and what draws scores, makes PDFs and reads MIDI files for it."""
         super().server_close()
         self.scorer.close()
         self.pdfs.close()
+        self.midi_files.close()
 
     def is_left(self) -> bool:
         """Returns whether a page that was opened on a desktop had no window for a while, with all of its text saved."""

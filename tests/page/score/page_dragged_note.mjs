@@ -5,7 +5,7 @@ import { pathToFileURL } from "node:url";
 
 import { run, same } from "../testing.mjs";
 
-const { draggedNote } = await import(pathToFileURL(`${process.argv[2]}/score/dragged_note.js`));
+const { chordColumns, draggedNote, nearest } = await import(pathToFileURL(`${process.argv[2]}/score/dragged_note.js`));
 const { SelectedNotes, notesIn } = await import(pathToFileURL(`${process.argv[2]}/score/selected_notes.js`));
 
 /** A note of the score, with the classes of its element. */
@@ -22,6 +22,17 @@ const tests = {
 
   "it has the accidental of its key where it is dropped"() {
     same([draggedNote("^F2", 0, 1), draggedNote("__B,", 0, 1), draggedNote("A=c'", 1, -7)], ["G2", "C", "Ac"]);
+  },
+
+  "the notes of a chord are known by their columns, from the lowest one on"() {
+    same([chordColumns("[CEG]", 0), chordColumns("A[c^E,-G/2]2|", 1), chordColumns("[B,b]", 0)], [[1, 2, 3], [3, 7, 2], [1, 3]]);
+    same([chordColumns('["Am"!f!{gab}C2e]', 0), chordColumns("[F^F]", 0)], [[13, 15], [1, 2]]);
+    same([chordColumns("CEG", 0), chordColumns("[K:G]A", 0), chordColumns("[|C]", 0), chordColumns("[CE", 0)], [[], [], [], []]);
+    same(draggedNote("[C^EG]2", 2, 2), "[CGG]2");
+  },
+
+  "the head that is nearest to the mouse is dragged"() {
+    same([nearest([96, 90, 84], 91), nearest([96, 90, 84], 200), nearest([60], 0), nearest([96, 90], 93)], [1, 0, 0, 0]);
   },
 
   "what is no single note, or has no key of MIDI, stays"() {

@@ -1,7 +1,7 @@
 """Starts a program within limits: `limits.py USE PROGRAM [WORD..]`, USE one of `USES`. It needs no other module of the package.
 
 The program has limits of memory and time. It can write no byte into a file, but for the use `CONVERTING`, and then only in its own
-folder. With libseccomp it has only the system calls of a list: it opens no connection, starts no process, reaches no other one, and
+folder. For the use `READING_A_FILE` it can read what is in that folder. With libseccomp it has only the system calls of a list: it opens no connection, starts no process, reaches no other one, and
 changes no file, its rights, owner, times and attributes among them. If Linux has Landlock, it can also create and remove no other
 file, and read none but those of the system's programs, libraries and fonts. Before the output of the program comes a line with the
 walls that could be set: `FILTER`, `FILES`."""
@@ -17,8 +17,8 @@ from typing import Any
 
 MEMORY = 512 << 20  # bytes of addresses
 DESCRIPTORS = 64
-DRAWING, DRAWING_PAGES, CONVERTING = "drawing", "drawing-pages", "converting"
-USES = {DRAWING: (4, 0), DRAWING_PAGES: (60, 0), CONVERTING: (60, 64 << 20)}  # seconds of the processor, bytes of a file
+DRAWING, DRAWING_PAGES, CONVERTING, READING_A_FILE = "drawing", "drawing-pages", "converting", "reading-a-file"
+USES = {DRAWING: (4, 0), DRAWING_PAGES: (60, 0), CONVERTING: (60, 64 << 20), READING_A_FILE: (4, 0)}  # seconds of the processor, bytes of a file
 SYSTEM = ["/usr", "/bin", "/lib", "/lib64", "/nix/store", "/dev/null"]
 SYSTEM += ["/etc/fonts", "/etc/ld.so.cache", "/etc/localtime", "/var/cache/fontconfig"]
 SYSTEM += ["/etc/ghostscript", "/var/lib/ghostscript"]
@@ -52,6 +52,7 @@ CREATE_RULESET, ADD_RULE, RESTRICT_SELF = 444, 445, 446  # of Landlock, on all p
 ASK_FOR_VERSION, BENEATH_A_PATH = 1, 1
 EXECUTE, WRITE_FILE, READ_FILE, READ_FOLDER, REMOVE_FILE, MAKE_FILE = 1 << 0, 1 << 1, 1 << 2, 1 << 3, 1 << 5, 1 << 8
 READING, WRITING = EXECUTE | READ_FILE, WRITE_FILE | READ_FILE | REMOVE_FILE | MAKE_FILE
+OWN_FOLDER = {CONVERTING: WRITING, READING_A_FILE: READ_FILE}  # what a use may do there
 RULESET_SIZES = {1: 8, 4: 16, 6: 24}  # since a version of Landlock
 FILE_RIGHTS = {1: 13, 2: 14, 3: 15, 5: 16}  # how many there are since a version
 NET_RIGHTS = {4: 2}
@@ -123,9 +124,9 @@ def landlock_version() -> int:
     return max(0, version)
 
 
-def refuse_files(program: str, writes: bool = False) -> bool:
-    """Takes the right to read anything but the system and the program, for ever. A program that writes has its own folder too. Returns
-    whether that was possible."""
+def refuse_files(program: str, use: str = DRAWING) -> bool:
+    """Takes the right to read anything but the system and the program, for ever. Some uses have their own folder too. Returns whether
+    that was possible."""
     import ctypes
 
     libc, version = ctypes.CDLL(None), landlock_version()
@@ -139,8 +140,8 @@ def refuse_files(program: str, writes: bool = False) -> bool:
     for path in [*SYSTEM, os.path.realpath(program)]:
         with suppress(OSError):
             allow(libc, ruleset, path, READING)
-    if writes:
-        allow(libc, ruleset, ".", WRITING)
+    if use in OWN_FOLDER:
+        allow(libc, ruleset, ".", OWN_FOLDER[use])
     is_set: bool = libc.syscall(RESTRICT_SELF, ruleset, 0) == 0
     os.close(ruleset)
     return is_set
@@ -160,7 +161,7 @@ def main() -> None:
     walls = []
     with suppress(ImportError, AttributeError):
         end_with_parent()
-        walls += [FILES] * refuse_files(program, use == CONVERTING)
+        walls += [FILES] * refuse_files(program, use)
     limit(use)
     walls += [FILTER] * refuse_calls(use == CONVERTING)
     os.write(sys.stdout.fileno(), " ".join(walls).encode() + b"\n")

@@ -1,13 +1,11 @@
 """The scores of several tunes as a PDF: `abcm2ps` draws pages of A4, and Ghostscript writes them as a PDF, each within limits."""
 
 import base64
-import os
-import tempfile
-import threading
-from typing import NamedTuple, Optional
+from typing import NamedTuple
 
 from ...common.json_object import Json
-from ..own_process import ENDED, OwnProcess, answer_all
+from ..one_at_a_time import OneAtATime
+from ..own_process import answer_all
 from ..refused import Refused
 from .limits import CONVERTING, DRAWING_PAGES
 from .readable_lines import header_lines, tune_lines
@@ -88,20 +86,12 @@ def run(name: str, words: list[str], text: bytes) -> Output:
         raise NoPdf(f"{name} cannot be run: {error.strerror}.") from error
 
 
-class PdfMaker:
-    """Makes one PDF at a time, in a process of its own, which ends with it."""
+class PdfMaker(OneAtATime):
+    """Makes one PDF at a time."""
 
     def __init__(self) -> None:
-        self.turn = threading.Lock()
-        self.process: Optional[OwnProcess] = None
-        self.is_closed = False
-
-    def close(self) -> None:
-        """Ends the process, also while it makes a PDF."""
-        self.is_closed = True
-        process = self.process
-        if process:
-            process.process.kill()
+        busy = "Another PDF is being made. Try again when it is there."
+        super().__init__("page.score.pdf", SECONDS_OF_THE_PROCESS, busy, "The process that makes the PDF failed")
 
     def needs(self) -> Json:
         """What to install before there can be a PDF, which is nothing if all is there."""
@@ -113,24 +103,7 @@ class PdfMaker:
         drawer, converter = found_program(), found_program(GHOSTSCRIPT)
         if not drawer or not converter:
             return {**self.needs(), "missing": True}
-        if not self.turn.acquire(blocking=False):
-            return {"why": "Another PDF is being made. Try again when it is there."}
-        try:
-            with tempfile.TemporaryDirectory() as folder:
-                process = self.process = OwnProcess("page.score.pdf", TMPDIR=folder)
-                try:
-                    if self.is_closed:
-                        raise EOFError
-                    found: Json = process.ask((drawer, converter, question), SECONDS_OF_THE_PROCESS)
-                    return found
-                finally:
-                    self.process = None
-                    process.close()
-        except ENDED as error:
-            reason = os.strerror(error.errno) if isinstance(error, OSError) and error.errno else "it ended"
-            return {"why": f"The process that makes the PDF failed: {reason}."}
-        finally:
-            self.turn.release()
+        return self.ask((drawer, converter, question))
 
 
 def question_of(asked: Json) -> Question:

@@ -113,7 +113,7 @@ class Drawing:
         counts = {name: attributes.get(name, "") for name in ("row", "col")}
         if kind and all(map(NUMBER.fullmatch, found.values())) and all(map(COUNT.fullmatch, counts.values())):
             inside = next(node for node in reversed(self.open) if node is not None and node[0] not in TEXTS)
-            found |= upright(found) | breadth(inside)
+            found |= upright(found) | of_heads(inside)
             inside.append(["place", {"kind": kind, **found, **{name: int(count) for name, count in counts.items()}}])
 
     def known(self, tag: str, attributes: Attributes) -> Attributes:
@@ -137,16 +137,19 @@ def upright(found: Attributes) -> Attributes:
     return {"y": f"{top + height:.2f}", "height": f"{-height:.2f}"} if height < 0 else {}
 
 
-def breadth(node: Node) -> Attributes:
-    """How far the heads of the note that was drawn last in a node reach from left to right, if there are some. What `abcm2ps` says
-    of its breadth counts the words below it, too."""
-    centres = []
-    for child in takewhile(lambda child: child[0] != "place", reversed(node[2:])):
-        if HEAD.fullmatch(child[1].get("href", "")) and "x" in child[1]:
-            centres.append(float(child[1]["x"]))
-    if not centres:
+def of_heads(node: Node) -> Attributes:
+    """How far the heads of the note that was drawn last in a node reach from left to right, and how far down the centre of each is from the
+    lowest one on, if there are some. What `abcm2ps` says of its breadth counts the words below it, too."""
+    drawn = takewhile(lambda child: child[0] != "place", reversed(node[2:]))
+    heads = [child[1] for child in drawn if HEAD.fullmatch(child[1].get("href", "")) and {"x", "y"} <= child[1].keys()]
+    if not heads:
         return {}
-    return {"x": f"{min(centres) - REACH:.2f}", "width": f"{max(centres) - min(centres) + 2 * REACH:.2f}"}
+    centres = [float(head["x"]) for head in heads]
+    return {
+        "x": f"{min(centres) - REACH:.2f}",
+        "width": f"{max(centres) - min(centres) + 2 * REACH:.2f}",
+        "heads": sorted((float(head["y"]) for head in heads), reverse=True),
+    }
 
 
 def size_of(attributes: Attributes) -> Attributes:

@@ -12,12 +12,14 @@ import threading
 import time
 from contextlib import suppress
 from functools import lru_cache
+from pathlib import Path
 from typing import NamedTuple
 
-from .limits import CONVERTING, SYSTEM
+from .limits import CONVERTING, READING_A_FILE, SYSTEM
 
 BUBBLEWRAP = "bwrap"
 OUTER = "bubblewrap"  # the name of the outer wall
+READ_FILE = "file"  # the name of what a program reads that takes no standard input
 SECONDS_FOR_A_TRIAL = 10
 
 
@@ -41,12 +43,15 @@ class Output(NamedTuple):
 
 
 def output_of(command: list[str], text: bytes, environment: dict[str, str], seconds: float, most: int) -> Output:
-    """What a program writes for a text. The command is `limits.py`, a use, and the program with its words. Raises one of the errors
-    above, or OSError if the program cannot be run."""
+    """What a program writes for a text. The command is `limits.py`, a use, and the program with its words. For the use `READING_A_FILE`
+    the text is in the file `READ_FILE` of its folder. Raises one of the errors above, or OSError if the program cannot be run."""
     limits, use, program, *words = command
     with tempfile.TemporaryDirectory() as folder, tempfile.TemporaryFile() as asked:
-        asked.write(text)
-        asked.seek(0)
+        if use == READING_A_FILE:
+            Path(folder, READ_FILE).write_bytes(text)
+        else:
+            asked.write(text)
+            asked.seek(0)
         outer = outer_wall(limits, use, program, folder)
         inner = [sys.executable, "-I", "-S", limits, use, os.path.realpath(program) if outer else program, *words]
         process = subprocess.Popen(
