@@ -4,8 +4,8 @@ from __future__ import annotations
 
 import hashlib
 import sqlite3
-import time
 from contextlib import closing
+from datetime import datetime, timedelta, timezone
 
 import setting
 from abc2midi_live_archive.tables import VERSION
@@ -68,15 +68,18 @@ class Catalogues(setting.Runs):
 
     def test_a_book_has_the_time_at_which_it_was_last_seen(self) -> None:
         one, two = self.write("in/one.abc", TUNE % (1, b"One")), self.write("in/two.abc", TUNE % (1, b"Two"))
-        started = time.strftime("%Y-%m-%dT%H:%M:%SZ", time.gmtime())
         self.run_archive(self.folder / "in")
-        first = dict(self.rows("SELECT name, seen FROM books"))
-        self.assertEqual((len(set(first.values())), first["one"] >= started), (1, True))
+        (seen,) = set(self.rows("SELECT seen FROM books"))
+        age = datetime.now(timezone.utc) - datetime.strptime(seen[0], "%Y-%m-%dT%H:%M:%SZ").replace(tzinfo=timezone.utc)
+        self.assertLess(abs(age), timedelta(hours=12))  # a machine may set its clock meanwhile
+        earlier = "2000-01-02T03:04:05Z"
+        with closing(sqlite3.connect(self.to / "catalogue.sqlite")) as database:
+            database.execute("UPDATE books SET seen = ?", (earlier,))
+            database.commit()
         two.unlink()
-        time.sleep(1.1)
         self.run_archive(one)
         second = dict(self.rows("SELECT name, seen FROM books"))
-        self.assertEqual((second["two"], second["one"] > first["one"]), (first["two"], True))
+        self.assertEqual((second["two"], second["one"] > earlier), (earlier, True))
 
     def test_the_same_music_has_the_same_digest(self) -> None:
         """With another title, key, tempo and instrument. Other notes have another one."""

@@ -17,7 +17,7 @@ from abc2midi_live_archive.reading import Member, read_members
 from abc2midi_live_archive.sources import BadSource, Source, find_books
 from books import TUNE
 
-SECONDS = 60  # that reading a small archive may take on a busy machine
+SECONDS = 600  # that reading a small archive may take on a busy machine
 
 
 class HostileSources(setting.Runs):

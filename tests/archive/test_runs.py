@@ -176,7 +176,7 @@ class Failures(setting.Runs):
 
     def run_mounted(self, mounting: str, *words: Any) -> setting.Ran:
         """Runs the command where the archive's folder is another file system. The test is skipped if that cannot be made."""
-        if subprocess.run(["unshare", "-rm", "true"], capture_output=True).returncode:
+        if subprocess.run(["unshare", "-rm", "mount", "-t", "tmpfs", "tmpfs", self.folder], capture_output=True).returncode:
             self.skipTest("this machine does not let a process mount file systems of its own")
         script = f"set -e; {mounting.format(to=shlex.quote(str(self.to)))}; {shlex.join(self.words(*words))}"
         asked = subprocess.run(["unshare", "-rm", "sh", "-c", script], capture_output=True, timeout=setting.SECONDS)

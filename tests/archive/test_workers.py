@@ -30,7 +30,6 @@ from abc2midi_live_archive.workers import DIED, MOST_DEATHS
 from books import TUNE
 from slow import STOPPED, Slow, wait_for
 
-SECONDS = 120  # that a run may take after a kill
 
 
 class Kills(Slow):
@@ -52,7 +51,7 @@ class Kills(Slow):
                 wait_for(lambda: is_idle(worker))
                 os.kill(worker, signal.SIGKILL)
                 os.kill(process.pid, signal.SIGCONT)
-                out, err = process.communicate(timeout=SECONDS)
+                out, err = process.communicate(timeout=setting.SECONDS)
                 self.assertEqual((process.returncode, setting.without_progress(err)), (0, b""), out)
                 self.assert_as_fresh({"faults": faults})
 
@@ -75,7 +74,7 @@ class Kills(Slow):
                     os.killpg(process.pid, signal.SIGINT)
                 elif found:
                     kill_worker(chance.choice(found))
-                out, err = process.communicate(timeout=SECONDS)
+                out, err = process.communicate(timeout=setting.SECONDS)
                 ended.append((what, process.returncode))
                 self.assertNotIn(b"Traceback", err)
                 if what == "worker":
@@ -101,7 +100,7 @@ class Kills(Slow):
                 wait_for(lambda: len(list(self.to.glob("*/*.mid"))) >= done or process.poll() is not None)
                 with suppress(ProcessLookupError):  # it has ended, and the next line says how
                     os.killpg(process.pid, signal.SIGINT)
-                out, err = process.communicate(timeout=SECONDS)
+                out, err = process.communicate(timeout=setting.SECONDS)
                 self.release()
                 self.assertEqual((process.returncode, setting.without_progress(err)), (1, b""), out)
                 self.assertRegex(out.decode(), STOPPED)
@@ -278,7 +277,7 @@ class TheProcess(setting.Room):
         started.connection.send(one)
         wait_for(lambda: note.exists() and note.read_text().endswith("\n"))
         started.connection.close()
-        self.assertEqual(started.process.wait(SECONDS), -signal.SIGKILL)
+        self.assertEqual(started.process.wait(setting.SECONDS), -signal.SIGKILL)
         program = Path("/proc", note.read_text().strip())
         wait_for(lambda: not program.exists())
 

@@ -15,7 +15,7 @@ from .outcome import Outcome, Outcomes
 PAGE = TOP / "docs/features.md"
 HEADING = "| Example | Sounds here as |"
 HEADER = ("X:1", "M:4/4", "L:1/4", "K:C")
-SECONDS = 60
+SECONDS = 600
 
 
 class Example(NamedTuple):

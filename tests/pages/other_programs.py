@@ -21,7 +21,7 @@ LINE = re.compile(r"^%%MIDI ([a-z]+)", re.M)
 READ = "program"  # of the `%%MIDI` lines, the one that the program reads
 TUNE = ("X:1", "T:Scale", "L:1/4", "K:C", "CDEF|GABc|")
 AT = 4  # the line before which a `%%MIDI` line is inserted, in the header
-SECONDS = 60
+SECONDS = 600
 
 
 def first_column(heading: str) -> set[str]:

@@ -134,6 +134,13 @@ class Names(Editor):
         self.open("X:1\nK:C\nV:1\nC\n")
         self.assertEqual(len(self.at("rename", 2, 2, newName="(S)")["documentChanges"][0]["edits"]), 1)
 
+    def test_a_rename_leaves_the_header_of_the_file(self) -> None:
+        """It is of all tunes, and a rename of one."""
+        self.open("%%score (Top 1)\n\nX:1\nK:C\nV:Top\nC\n\nX:2\n%%score Top\nK:C\nV:Top\nC\n")
+        self.assertEqual(self.places(self.at("rename", 4, 2, newName="S")["documentChanges"][0]["edits"]), [(4, 2)])
+        self.assertEqual(self.places(self.at("rename", 10, 2, newName="S")["documentChanges"][0]["edits"]), [(8, 8), (10, 2)])
+        self.assertIsNone(self.at("prepareRename", 0, 9))
+
     def test_other_tunes(self) -> None:
         """A voice of another tune is another voice."""
         self.open("X:1\nK:C\nV:1\nC\n\nX:2\nK:C\nV:1\nC\n")

@@ -5,6 +5,7 @@ import json
 import os
 import random
 import shutil
+import signal
 import socket
 import subprocess
 import sys
@@ -12,7 +13,8 @@ import tempfile
 import threading
 import time
 import unittest
-from collections.abc import Iterator, Sequence
+from collections.abc import Callable, Iterator, Sequence
+from contextlib import suppress
 from pathlib import Path
 from typing import Any, Optional
 from unittest import mock
@@ -79,6 +81,14 @@ def program_found() -> str:
     found = found_program()
     assert found
     return found
+
+
+def end_sleep(seconds: str) -> None:
+    """Ends a process that sleeps for just this time."""
+    for entry in Path("/proc").glob("[0-9]*"):
+        with suppress(OSError):
+            if (entry / "cmdline").read_bytes() == f"sleep\0{seconds}\0".encode():
+                os.kill(int(entry.name), signal.SIGKILL)
 
 
 def process_of(scorer: Scorer) -> "subprocess.Popen[bytes]":
@@ -442,20 +452,25 @@ class Harm(trial.Folder):
             self.assertLess(time.monotonic(), until)
         return str(why.exception)
 
-    def running(self) -> list[Any]:
-        """The processes that have the name of this test's folder in their command."""
+    def running(self) -> list[bytes]:
+        """The commands of the processes that have the name of this test's folder in them."""
         found = []
         for entry in Path("/proc").glob("[0-9]*"):
-            try:
-                if str(self.bin) in (entry / "cmdline").read_bytes().decode("utf-8", "replace") and int(entry.name) != os.getpid():
-                    found.append(entry.name)
-            except OSError:
-                pass
+            with suppress(OSError):  # it has ended
+                command = (entry / "cmdline").read_bytes()
+                if os.fsencode(self.bin) in command and int(entry.name) != os.getpid():
+                    found.append(command)
         return found
 
-    def is_running(self, name: str) -> bool:
-        """Whether a process of this test is one of a program."""
-        return any(Path(f"/proc/{number}/cmdline").read_bytes().startswith(name.encode() + b"\0") for number in self.running())
+    def when_running(self, name: str, act: Callable[[], object]) -> None:
+        """Acts as soon as a process of this test is one of a program, however long that takes."""
+
+        def wait() -> None:
+            while not any(command.startswith(name.encode() + b"\0") for command in self.running()):
+                time.sleep(0.01)
+            act()
+
+        threading.Thread(target=wait, daemon=True).start()
 
     def draw(self, inside: str) -> None:
         """Makes a program that draws this."""
@@ -666,16 +681,9 @@ class Walls(Harm):
         path.write_text(f"#!{PYTHON} -IS\nimport time\ntime.sleep(1000)\n")
         path.chmod(0o755)
         scorer = self.scorer()
-
-        def kill() -> None:
-            while not self.is_running(PYTHON):
-                time.sleep(0.01)
-            time.sleep(0.1)
-            process_of(scorer).kill()
-
-        threading.Thread(target=kill).start()
+        self.when_running(PYTHON, lambda: process_of(scorer).kill())
         self.assertIn("ended", self.ask(scorer)["why"])
-        until = time.monotonic() + score.SECONDS
+        until = time.monotonic() + trial.SECONDS
         while self.running():
             self.assertLess(time.monotonic(), until)
             time.sleep(0.01)
@@ -791,8 +799,8 @@ class Limits(Harm):
     def test_a_process_that_ends(self) -> None:
         """The next question starts another one, and the tune is tried again."""
         scorer = self.scorer()
-        self.program("exec sleep 1000")
-        threading.Timer(1, lambda: process_of(scorer).kill()).start()
+        self.program("while :; do sleep 1000; done")
+        self.when_running("/bin/sh", lambda: process_of(scorer).kill())
         self.assertEqual(self.ask(scorer), {"why": "The process that draws scores ended on this tune."})
         self.program("exit 1")
         self.assertIn("no notes", self.ask(scorer)["why"])
@@ -811,8 +819,8 @@ class Limits(Harm):
     def test_the_end_while_it_draws(self) -> None:
         """Nothing is left."""
         scorer = Scorer()
-        self.program("exec sleep 1000")
-        threading.Timer(1, scorer.close).start()
+        self.program("while :; do sleep 1000; done")
+        self.when_running("/bin/sh", scorer.close)
         self.assertIn("ended", self.ask(scorer)["why"])
         self.assertEqual(os.listdir(self.files), [])
         self.assertEqual([process for process in [scorer.process] if process], [])
@@ -892,7 +900,9 @@ class Unfiltered(Harm):
 
     def test_one_whose_child_leaves_the_group(self) -> None:
         """It keeps the output open, and nobody waits for it longer."""
-        self.program("setsid sleep 3 & exit 0")
+        seconds = f"1000.{os.getpid()}{random.randrange(10**9)}"
+        self.addCleanup(end_sleep, seconds)
+        self.program(f"setsid sleep {seconds} & exit 0")
         self.assertIn("took too long", self.why(0.5))
 
 

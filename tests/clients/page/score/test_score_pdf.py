@@ -5,7 +5,6 @@ import base64
 import os
 import shutil
 import subprocess
-import threading
 import time
 import unittest
 from pathlib import Path
@@ -141,10 +140,10 @@ class Walls(test_score.Harm):
 
     def test_the_end_while_a_pdf_is_made(self) -> None:
         """The server closes, and no process is left."""
-        self.bin_program("abcm2ps", "exec sleep 1000")
+        self.bin_program("abcm2ps", "while :; do sleep 1000; done")
         self.bin_program("gs", "exit 1")
         with Server(0, SharedBookStub(), argparse.Namespace(open=False, plain_sounds=True)) as server:
-            threading.Timer(1, server.server_close).start()
+            self.when_running("/bin/sh", server.server_close)
             self.assertIn("failed", server.pdfs.answer({"header": [], "tunes": [KESH]})["why"])
         until = time.monotonic() + trial.SECONDS
         while self.running():
