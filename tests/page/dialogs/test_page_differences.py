@@ -3,6 +3,7 @@
 import page_in_node
 import served_page
 import test_page_in_browser
+from abc2midi_live_clients.common import replaced_file
 from browser_keys import CONTROL, ESCAPE
 
 ROWS = "return [...document.querySelectorAll('#differences-rows tr')].map((row) => [row.className, row.innerText])"
@@ -23,6 +24,20 @@ class Texts(served_page.Page):
         self.assertEqual((self.ask("saved"), self.ask("disk")), ({"lines": was}, {"lines": was}))
         self.path.write_bytes("\n".join(now).encode("latin-1"))
         self.assertEqual((self.ask("saved"), self.ask("disk")), ({"lines": was}, {"lines": now}))
+
+    def test_a_file_that_is_replaced(self) -> None:
+        """By another program, and by the page itself: each writes a new file, and gives it the name."""
+        was, number = served_page.BOOK.decode().split("\n"), self.path.stat().st_ino
+        with replaced_file.replacing(str(self.path)) as file:
+            file.write(b"X:9\nT:New\n")
+        self.assertNotEqual(self.path.stat().st_ino, number)
+        self.assertEqual((self.ask("saved"), self.ask("disk")), ({"lines": was}, {"lines": ["X:9", "T:New", ""]}))
+        self.path.write_bytes(served_page.BOOK)
+        number = self.path.stat().st_ino
+        self.edit(0, 1, "X:7")
+        self.save()
+        self.assertNotEqual(self.path.stat().st_ino, number)
+        self.assertEqual((self.ask("saved"), self.ask("disk")), ({"lines": ["X:7", *was[1:]]},) * 2)
 
     def test_no_file(self) -> None:
         self.path.unlink()
