@@ -35,6 +35,7 @@ const tests = {
   "they move with the text"() {
     same(shown(20, PASTE, [0, 0, 2, "insertText"]), [12, 19, 3, 11]);
     same(shown(19, PASTE, [12, 12, 1, "insertText"], [30, 31, 1, ""]), [11, 12, 3]);
+    same(shown(12, [10, 10, 2, "insertFromPaste"], [12, 12, 1, "insertText"]), [11, 3]); // what is put in after them is none of them
   },
 };
 

@@ -337,6 +337,8 @@ const tests = {
   "what two texts have at another place is there in the text of which they were made"() {
     same(withMoves(["same", "ABCDEF12", "end"], ["same", "12x", "ABCDEF", "end"], ["same", "1y2", "ABCDEF", "end", "z"]), ["same", "12ABCDEF", "end"]);
     same(withMoves(["a12", "b"], ["2a1", "b"], ["2xa1", "b"]), ["2a1", "b"]);
+    const both = ["same", "12ABCDEF", "middle", "34GHIJKL", "end"]; // two moves
+    same(withMoves(["same", "ABCDEF12", "middle", "GHIJKL34", "end"], both, both), both);
     for (const [base, own, other] of [[["ab"], ["ba"], ["ab"]], [["abc"], ["bca"], ["cab"]], [["a1"], ["1a"], ["a"]], [[], ["a"], ["a"]], [["a"], [""], [""]]]) {
       same(withMoves(base, own, other), base);
     }

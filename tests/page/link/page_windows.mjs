@@ -110,6 +110,7 @@ const tests = {
     same(edits.every(({ taken, put }) => taken.length + put.length < 5), true); // so a caret elsewhere stays
     same(mergedLines(["", "X:2", "K:D"], ["a", "X:2b", "", "K:D"], ["", "X:c", "d:2", "K:D"]), ["a", "X:c", "d:2b", "", "K:D"]);
     same(mergedLines(["C", "D"], ["C"], ["C", "D", "E"]), ["C", "E"]);
+    same(merging(["\u{1d11e}"], ["\u{1d122}"], ["\u{1f51e}"]).isTwice, true); // no character is torn: each window changed another half of it
     const long = Array.from({ length: 3000 }, (_, n) => `line ${n}`), mine = long.map((line, n) => (n % 2 ? line : `${line} C`)), theirs = [...long, "D"];
     same(mergedLines(long, mine, theirs).slice(-2), ["line 2999", "D"]);
   },

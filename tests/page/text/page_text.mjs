@@ -72,6 +72,14 @@ const tests = {
     same([text.redo(), text.lines.join("")], [at(8), "0a12bc34567"]);
   },
 
+  "after a new step nothing that was undone is done again"() {
+    const text = opened("a", "b");
+    typed(text, 0, 1, "A");
+    text.undo();
+    typed(text, 1, 2, "B");
+    same([text.redo(), text.lines.join("")], [null, "aB"]);
+  },
+
   "edits of others at other lines leave what can be undone"() {
     const text = opened("a", "b", "c");
     typed(text, 2, 3, "C");

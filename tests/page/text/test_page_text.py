@@ -5,4 +5,4 @@ import page_in_node
 
 class Scripts(page_in_node.PageScripts):
     def test_scripts(self) -> None:
-        self.assert_ok("text/page_text.mjs", 21)
+        self.assert_ok("text/page_text.mjs", 22)
