@@ -133,8 +133,7 @@ class Catalogue:
             self.ask(f"DELETE FROM {table} WHERE book = ?", book)
         for table, rows in zip(OF_BOOKS, (result.tunes, result.losses, result.remarks)):
             self.add_rows(table, book, rows)
-        files = sum(tune.file is not None for tune in result.tunes)
-        counts = len(result.tunes), files, result.fault_count, result.hint_count
+        counts = len(result.tunes), result.file_count, result.fault_count, result.hint_count
         sizes = result.size, result.lines, result.parts
         self.ask(BOOK, result.digest, options, *sizes, *counts, result.seconds, result.hidden, book)
 

@@ -23,11 +23,11 @@ from .tunes.fields import fields_of, file_header_of
 from .tunes.losses import Losses, state_of
 from .tunes.music import facts_of
 from .tunes.numbering import Text, insert_part
-from .units import Backend, Kind, Loss, Outcome, Remark, Result, TuneRow, Unit, path_of_file
+from .units import FILE, Backend, Kind, Loss, Outcome, Remark, Result, Row, TuneRow, Unit, path_of_file
 
 MOST_REMARKS = 10_000  # of a book that the catalogue has
 MOST_EXCERPT = 120  # characters
-NO_FILE = (None,) * (len(TuneRow._fields) - TuneRow._fields.index("file"))
+NO_FILE = (None,) * (TuneRow._fields.index("state") - FILE)
 
 
 @dataclass
@@ -36,7 +36,7 @@ class Compiled:
 
     unit: Unit
     files: dict[int, bytes] = field(default_factory=dict)
-    tunes: list[TuneRow] = field(default_factory=list)
+    tunes: list[Row] = field(default_factory=list)
     faults: list[Fault] = field(default_factory=list)
     hints: list[Remark] = field(default_factory=list)
     losses: list[Loss] = field(default_factory=list)
@@ -95,6 +95,7 @@ def compile_book(data: bytes, digest: str, unit: Unit) -> Result:
         lines=len(whole),
         parts=len(cut.parts),
         tunes=tuple(found.tunes),
+        file_count=len(found.files),
         remarks=(*faults, *found.hints[:MOST_REMARKS]),
         fault_count=len(found.faults),
         hint_count=len(found.hints),
@@ -138,21 +139,20 @@ def add_tunes(session: Session, part: Part, text: Text, tunes: Sequence[Tune], f
             found.hidden += 1
         line, place = part.line_of_book(tune.line), len(found.tunes) + 1
         fields = fields_of(part.lines[start:end], line, file_header)
-        row = TuneRow._make((tune.number, tune.title, line, place, found.unit.reading, *fields, *file_columns(found.unit.book, number, data)))
+        state = None
         if losses:
             lost = losses.of_tune(place, start, start + fields.last_line - line + 1, number if data is not None else None)
-            row = row._replace(state=state_of(lost))
+            state = state_of(lost)
             found.losses.extend(lost)
-        found.tunes.append(row)
+        columns = file_columns(found.unit.book, number, data)
+        found.tunes.append((tune.number, tune.title, line, place, found.unit.reading, *fields, *columns, state))
 
 
 def file_columns(book: str, number: int, data: Optional[bytes]) -> tuple[Any, ...]:
     """Returns what the row of a tune has of its file, from its path on."""
     if data is None:
         return NO_FILE
-    facts = facts_of(data)
-    of_file = path_of_file(book, number), len(data), hashlib.sha256(data).hexdigest()
-    return (*of_file, *facts, None)
+    return (path_of_file(book, number), len(data), hashlib.sha256(data).hexdigest(), *facts_of(data))
 
 
 def placed(faults: Sequence[Fault], part: Part) -> Iterator[Fault]:

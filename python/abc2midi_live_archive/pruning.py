@@ -13,7 +13,7 @@ from .catalogue import Catalogue
 from .names import stored
 from .reading import is_archive
 from .sources import Source
-from .storing import store_files
+from .storing import remove_new_folder, store_files
 
 ESCAPED = re.compile(rb"\\x([0-9a-f]{2})")  # a byte that is no character, as the catalogue has it
 
@@ -59,6 +59,7 @@ def exists(path: str) -> bool:
 def prune(folder: Folder, catalogue: Catalogue, book: Gone) -> None:
     """Removes a book that is gone. Files of others stay, with its folder. Raises OSError and BadCatalogue."""
     path = folder.inside(book.name)
+    remove_new_folder(path)
     store_files(path, {})
     with suppress(OSError):  # there is none, or it has files of others
         os.rmdir(path)

@@ -20,7 +20,7 @@ from .planning import Manner, Planned, Planner
 from .pruning import Gone, prune
 from .sources import reason
 from .storing import remove_halves, store_files
-from .units import Effect, Outcome, Result
+from .units import FILE, SHA256, Effect, Outcome, Result, number_of_file
 from .workers import Workers
 
 STATES = """SELECT books.name, state, count(*) FROM tunes JOIN books ON books.id = book WHERE state IS NOT NULL GROUP BY 1, 2"""
@@ -144,7 +144,7 @@ class Run:
         """Counts a compiled book."""
         self.counts.compiled += 1
         self.counts.tunes += len(result.tunes)
-        self.counts.files += sum(tune.file is not None for tune in result.tunes)
+        self.counts.files += result.file_count
         self.counts.faults += result.fault_count
         self.counts.hints += result.hint_count
         self.counts.cut += result.parts > 1
@@ -171,7 +171,7 @@ class Run:
     def print_changes(self, name: str, book: int, faults: int, result: Result) -> None:
         """Prints which files of a book differ from those of the last run, and how many faults it had and has."""
         before = self.catalogue.files_of(book)
-        after = {tune.file_number: tune.sha256 for tune in result.tunes if tune.file}
+        after = {number_of_file(tune[FILE]): tune[SHA256] for tune in result.tunes if tune[FILE]}
         written = [number for number, sha256 in sorted(after.items()) if before.get(number) != sha256]
         removed = sorted(before.keys() - after.keys())
         if written or removed or faults != result.fault_count:

@@ -15,7 +15,7 @@ from contextlib import contextmanager, suppress
 from typing import Optional
 
 from abc2midi_live_clients.common.regular_file import open_regular
-from abc2midi_live_clients.common.replaced_file import replacing
+from abc2midi_live_clients.common.replaced_file import CREATING, RIGHTS, replacing
 
 from .disks import sync_file_system
 
@@ -44,7 +44,9 @@ def open_folder(path: str) -> Iterator[Optional[int]]:
 
 def store_files(path: str, files: Mapping[int, bytes], syncs: bool = False) -> None:
     """Makes a folder have these files and no others of their form, on its disk if it `syncs`. Raises OSError; then the folder has some
-    of them."""
+    of them, or is not there if it was not there."""
+    if files and store_new_folder(path, files, syncs):
+        return
     if files:
         with suppress(FileExistsError):
             os.mkdir(path)
@@ -57,6 +59,60 @@ def store_files(path: str, files: Mapping[int, bytes], syncs: bool = False) -> N
         remove_names(folder, others(present, files))
         if syncs:
             sync_file_system(folder)
+
+
+def store_new_folder(path: str, files: Mapping[int, bytes], syncs: bool) -> bool:
+    """Makes a folder that is not there. It gets its name when it has all files, in one step, which takes less time than a step for each
+    file. Returns False if something has the name, or the other name, as a run leaves it that is killed. Raises OSError."""
+    new = name_of_new(path)
+    if os.path.lexists(path):
+        return False
+    try:
+        os.mkdir(new)
+    except FileExistsError:
+        remove_new_folder(path)
+        return False
+    try:
+        with open_folder(new) as folder:
+            if folder is None:
+                return False
+            for number, data in files.items():
+                write_file(folder, f"{number}.mid", data)
+            os.rename(new, path)
+            if syncs:
+                sync_file_system(folder)
+    except BaseException as error:
+        remove_new_folder(path)
+        if isinstance(error, OSError) and error.errno in (errno.EEXIST, errno.ENOTEMPTY, errno.ENOTDIR):  # something took the name
+            return False
+        raise
+    return True
+
+
+def name_of_new(path: str) -> str:
+    """Returns the name of the folder of a book before it has all files. No book has a name with a point at its begin."""
+    above, name = os.path.split(path)
+    return os.path.join(above, f".{name}.new")
+
+
+def write_file(folder: int, name: str, data: bytes) -> None:
+    """Writes a new file. Raises OSError."""
+    file = os.open(name, CREATING, RIGHTS, dir_fd=folder)
+    try:
+        written = os.write(file, data)
+        while written < len(data):
+            written += os.write(file, data[written:])
+    finally:
+        os.close(file)
+
+
+def remove_new_folder(path: str) -> None:
+    """Removes the folder that has the files of a book before it has its name. Files of others stay, with the folder."""
+    new = name_of_new(path)
+    with suppress(OSError), open_folder(new) as folder:
+        if folder is not None:
+            remove_names(folder, filter(MIDI_NAME.fullmatch, os.listdir(folder)))
+            os.rmdir(new)
 
 
 def write_files(folder: int, present: set[str], files: Mapping[int, bytes]) -> None:
@@ -103,6 +159,7 @@ def size_of_file(folder: int, name: str) -> Optional[int]:
 
 def remove_halves(path: str) -> None:
     """Removes the files that a killed worker wrote by half."""
+    remove_new_folder(path)
     with open_folder(path) as folder:
         if folder is not None:
             remove_names(folder, filter(HALF_NAME.fullmatch, os.listdir(folder)))

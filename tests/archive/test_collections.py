@@ -16,7 +16,7 @@ from unittest import mock
 import setting
 from abc2midi_live_archive import compiling
 from abc2midi_live_archive.cutting import cut_book
-from abc2midi_live_archive.units import Backend, Unit
+from abc2midi_live_archive.units import Backend, TuneRow, Unit
 from abc2midi_live_archive.units import Numbering as ByWhat
 from books import TUNE
 
@@ -84,7 +84,7 @@ class Numbering(Collections):
             with self.subTest(number), mock.patch.object(compiling, "cut_book", lambda lines: cut_book(lines, 20)):
                 result = compiling.do_unit(unit)
                 self.assertEqual({f"{place}.mid": data for place, data in (result.files or {}).items()}, setting.fresh(by_place(book)).files)
-                self.assertEqual([tune.place for tune in result.tunes], list(range(1, len(result.tunes) + 1)))
+                self.assertEqual([TuneRow._make(tune).place for tune in result.tunes], list(range(1, len(result.tunes) + 1)))
             parts += result.parts
         self.assertGreater(parts, 15)
 

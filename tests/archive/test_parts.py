@@ -237,6 +237,54 @@ class Storing(setting.Room):
         self.assertFalse(storing.has_files(str(self.to), {1: 3, 2: 3}))
         self.assertFalse(storing.has_files(str(self.to), {1: 3, 4: 5}))
 
+    def test_a_new_folder_gets_its_name_when_it_has_all_files(self) -> None:
+        new = self.folder / ".to.new"
+        rename = os.rename
+
+        def renamed(old: str, path: str) -> None:
+            self.assertEqual((setting.tree(new), self.to.exists()), ({"1.mid": b"one", "2.mid": b"two"}, False))
+            rename(old, path)
+
+        with mock.patch("os.rename", renamed), mock.patch.object(storing, "sync_file_system") as synced:
+            storing.store_files(str(self.to), {1: b"one", 2: b"two"}, True)
+        self.assertEqual((setting.tree(self.to), new.exists(), synced.call_count), ({"1.mid": b"one", "2.mid": b"two"}, False, 1))
+        self.assertEqual((self.to / "1.mid").stat().st_mode & 0o111, 0)
+
+    def test_a_new_folder_that_cannot_be_completed_is_not_there(self) -> None:
+        for error in (OSError(28, "No space left on device"), KeyboardInterrupt()):
+            for name in ("os.write", "os.rename"):
+                with self.subTest(name, error=error), mock.patch(name, side_effect=error), self.assertRaises(type(error)):
+                    storing.store_files(str(self.to), {1: b"one"})
+                self.assertEqual(os.listdir(self.folder), [])
+
+    def test_a_write_of_some_bytes_goes_on(self) -> None:
+        write = os.write
+        with mock.patch("os.write", lambda file, data: write(file, data[:2])):
+            storing.store_files(str(self.to), {1: b"12345"})
+        self.assertEqual(setting.tree(self.to), {"1.mid": b"12345"})
+
+    def test_what_a_killed_run_left_of_a_new_folder_goes(self) -> None:
+        for act in (lambda: storing.store_files(str(self.to), {1: b"one"}), lambda: storing.remove_halves(str(self.to))):
+            self.write(".to.new/1.mid", b"on")
+            act()
+            self.assertFalse((self.folder / ".to.new").exists())
+        self.assertEqual(setting.tree(self.to), {"1.mid": b"one"})
+        self.write(".to.new/mine.txt", b"mine")
+        storing.remove_halves(str(self.to))
+        self.assertEqual(os.listdir(self.folder / ".to.new"), ["mine.txt"])
+
+    def test_a_folder_that_takes_the_name_meanwhile_gets_the_files(self) -> None:
+        rename = os.rename
+
+        def renamed(old: str, path: str) -> None:
+            self.write("to/mine.txt", b"mine")
+            rename(old, path)
+
+        with mock.patch("os.rename", renamed):
+            storing.store_files(str(self.to), {1: b"one"})
+        self.assertEqual(sorted(os.listdir(self.to)), ["1.mid", "mine.txt"])
+        self.assertFalse((self.folder / ".to.new").exists())
+
     def test_an_old_file_that_only_begins_as_the_new_one_is_replaced(self) -> None:
         for old in (b"12345", b"1234", b"12", b"124", b""):
             self.write("to/1.mid", old)

@@ -7,6 +7,7 @@ from __future__ import annotations
 
 import re
 from collections.abc import Iterator, Sequence
+from functools import lru_cache
 from typing import NamedTuple, Optional
 
 from abc2midi_live_clients.common.line_places import text_of
@@ -34,6 +35,9 @@ ENDS = {b'"': b'"', b"!": b"!", b"[": b"]", b"{": b"}"}  # of what has one, by i
 CHORD_NAMES = frozenset(b"ABCDEFG")  # their first letters
 DECIDING = (b'"', b"&", b"!", b"%")  # without these and inline fields any grace notes without brackets are grace notes
 GRACE, INLINE = re.compile(rb"\{[^{}\[\]\n]*\}"), re.compile(rb"\[[A-Za-z]:")
+# Most tunes have a header of fields alone, without comments, and then lines of music up to the first blank line.
+PLAIN_HEADER = re.compile(rb"(?:(?!K)[A-Za-z]:(?:[^|:%\r\n][^%\r\n]*)?\n)*K:[^%\r\n]*(?:\n|\Z)")
+NO_MUSIC = re.compile(rb"\n(?:[A-Za-z+]:|[ \t]*(?:%|\r?(?:\n|\Z)))")  # begins a line that is a field, a comment or blank
 
 
 class Fields(NamedTuple):
@@ -68,37 +72,53 @@ class Signs(NamedTuple):
 
 
 class Block:
-    """The values of a tune's fields by their letters, its lines of music, and how many lines it has."""
+    """The values of a tune's fields by their letters, with line feeds between those of one letter, its lines of music, and how many
+    lines it has."""
 
     def __init__(self, lines: Sequence[bytes]):
         """Reads a tune from its `X:` line to the first blank line."""
-        self.values: dict[int, list[str]] = {}
-        self.music: list[bytes] = []
+        self.values: dict[int, str] = {}
+        self.music = b""
         self.size = len(lines)
+        text = b"\n".join(lines)
+        header = PLAIN_HEADER.match(text)
+        if not (header and self.is_plain(text, header.end())):
+            self.read_lines(lines)
+
+    def is_plain(self, text: bytes, end: int) -> bool:
+        """Reads a tune with a plain header, which ends at a place, and lines of music alone. Returns whether it is one."""
+        found = NO_MUSIC.search(text, end - 1)
+        stop = found.start() if found else len(text)
+        if found and (text[stop + 2 : stop + 3] == b":" or b"%" in found.group()) or not text.isascii():
+            return False
+        values = self.values
+        for line in text[:end].decode("ascii").removesuffix("\n").split("\n"):
+            letter, value = ord(line[0]), line[2:].strip(" \t")
+            values[letter] = f"{values[letter]}\n{value}" if letter in values else value
+        self.music = text[end:stop]
+        self.size = text.count(b"\n", 0, stop) + 1
+        return True
+
+    def read_lines(self, lines: Sequence[bytes]) -> None:
+        """Reads any tune, line by line."""
+        values: dict[int, list[str]] = {}
+        music = []
         wanted = OF_HEADER
         for n, line in enumerate(lines):
             if line[1:2] == b":" and (line[2:3] not in BARS or is_field(line)) and line[0] in LETTERS:
                 letter = line[0]
                 if letter in wanted:
-                    self.values.setdefault(letter, []).append(value_of(line))
+                    values.setdefault(letter, []).append(value_of(line))
                     if letter == KEY:  # the end of the header
                         wanted = READ
             elif line and line[0] > LAST_LOW or not (is_low := is_comment_or_blank(line)):
-                self.music.append(line)
+                music.append(line)
                 wanted = READ
             elif is_low is BLANK:
                 self.size = n
                 break
-
-    def text(self, letter: int) -> Optional[str]:
-        """Returns the values of a field."""
-        values = self.values.get(letter)
-        return None if values is None else values[0] if len(values) == 1 else "\n".join(values)
-
-    @property
-    def unit_fields(self) -> UnitFields:
-        """The fields that say the unit note length."""
-        return UnitFields(tuple(self.values.get(METER, ())), tuple(self.values.get(UNIT, ())))
+        self.music = b"\n".join(music)
+        self.values = {letter: "\n".join(each) for letter, each in values.items()}
 
 
 def is_field(line: bytes) -> bool:
@@ -122,13 +142,20 @@ def value_of(line: bytes) -> str:
 def fields_of(lines: Sequence[bytes], line: int, file_header: UnitFields) -> Fields:
     """Returns the fields of a tune by its lines, from its `X:` line, which is this line of its book, to the next one."""
     block = Block(lines)
-    text, values = block.text, block.values
-    key_text = text(KEY)
+    value = block.values.get
+    key_text = value(KEY)
     key = key_of(key_text) if key_text else NO_KEY
-    unit = unit_of(block.unit_fields, file_header)
-    has_lyrics = not values.keys().isdisjoint(LYRICS)
-    texts = map(text, TEXTS)
-    return Fields._make((text(TITLE), line + block.size - 1, *texts, key_text, *key, text(TEMPO), unit, has_lyrics, *signs_of(block.music)))
+    unit = opening_unit(value(METER), value(UNIT), file_header)
+    has_lyrics = not LYRICS.isdisjoint(block.values)
+    last, texts = line + block.size - 1, map(value, TEXTS)
+    return Fields._make((value(TITLE), last, *texts, key_text, *key, value(TEMPO), unit, has_lyrics, *signs_of(block.music)))
+
+
+@lru_cache(1024)
+def opening_unit(meters: Optional[str], units: Optional[str], file_header: UnitFields) -> str:
+    """Returns the unit note length with which a tune opens, by the values of its fields."""
+    fields = (tuple(values.split("\n")) if values is not None else () for values in (meters, units))
+    return unit_of(UnitFields(*fields), file_header)
 
 
 def file_header_of(opening: Sequence[bytes]) -> UnitFields:
@@ -141,9 +168,8 @@ def file_header_of(opening: Sequence[bytes]) -> UnitFields:
     return UnitFields(*(tuple(value_of(line) for line in fields if line[0] == letter) for letter in (METER, UNIT)))
 
 
-def signs_of(lines: Sequence[bytes]) -> Signs:
-    """Returns which signs the lines of music have."""
-    music = b"\n".join(lines)
+def signs_of(music: bytes) -> Signs:
+    """Returns which signs lines of music have."""
     if not has_signs(music):
         return NO_SIGNS
     if not any(sign in music for sign in DECIDING) and GRACE.search(music) and not INLINE.search(music):

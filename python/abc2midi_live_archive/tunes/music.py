@@ -5,6 +5,8 @@ A key is that of the file, which has sharps, flats and minor: E Dorian has the s
 from __future__ import annotations
 
 import hashlib
+import re
+from functools import lru_cache
 from typing import NamedTuple, Optional
 
 from abc2midi_live_clients.common.midi_duration import number
@@ -12,6 +14,8 @@ from abc2midi_live_clients.common.midi_duration import number
 FIRST_TRACK, TRACK_HEADER = 14, 8  # bytes: where the first track begins, and the bytes before the events of a track
 END, TEMPO, METER, KEY = 0x2F, 0x51, 0x58, 0x59  # kinds of events
 PROGRAM = 0xC  # the high half of the first byte of a program
+TITLE, AT_END = b"\0\xff\x03", b"\0\xff\x2f\0"  # the begin of a title, and the end of a track
+PLAIN = re.compile(rb"((?:\0\xff(?:\x51\x03[\0-\xff]{3}|\x58\x04[\0-\xff]{4}|\x59\x02[\0-\xff]{2}))*)([\x80-\xff]{0,3}[\0-\x7f])\xff\x2f\0")
 TICKS_OF_QUARTER, MICROSECONDS = 480, 1_000_000
 DEFAULT_TEMPO = MICROSECONDS // 2
 DIGEST = 16  # bytes of the digest of notes, a BLAKE2b: it takes half the time of a SHA-256
@@ -36,20 +40,51 @@ class Facts(NamedTuple):
     notes_digest: str
 
 
+class Conductor(NamedTuple):
+    """What the first track has: it has the tempos, keys and meters, and lasts to the end of the tune. The time is in millionths of a
+    second for each tick of a quarter note. `end` is the place after the track."""
+
+    key: Optional[str]
+    meter: Optional[str]
+    first_tempo: int
+    ticks: int
+    time: float
+    end: int
+
+
 def facts_of(data: bytes) -> Facts:
-    """Returns the facts of a file. Its first track has the tempos, keys and meters, and each track lasts to the end of the tune."""
+    """Returns the facts of a file."""
+    at = FIRST_TRACK + TRACK_HEADER
+    title = at + 4 + data[at + 3] if data[at : at + 3] == TITLE and data[at + 3] < 0x80 else at
+    plain = PLAIN.match(data, title)
+    if plain:  # one tempo, key and meter, as most tunes have
+        key, meter, first_tempo, _, _, _ = opening_of(plain[1])
+        ticks, end = 0, plain.end()
+        for byte in plain[2]:
+            ticks = ticks << 7 | byte & 0x7F
+        time: float = ticks * first_tempo
+    else:
+        key, meter, first_tempo, ticks, time, end = conductor_of(data, at)
+    seconds = round(time / TICKS_OF_QUARTER / MICROSECONDS, 3)
+    return Facts(key, meter, round(60 * MICROSECONDS / first_tempo, 2), ticks, seconds, data[11] - 1, *notes_of(data[end:]))
+
+
+@lru_cache(4096)
+def opening_of(events: bytes) -> Conductor:
+    """Returns what some events at the begin of a first track say."""
+    return conductor_of(events + AT_END, 0)
+
+
+def conductor_of(data: bytes, at: int) -> Conductor:
+    """Returns the first track, whose events begin at a place."""
     key = meter = None
     first_tempo = tempo = DEFAULT_TEMPO
-    ticks, seconds, kind, at = 0, 0.0, -1, FIRST_TRACK + TRACK_HEADER
+    ticks, time, kind = 0, 0.0, -1
     while kind != END:
-        delta = data[at]
-        if delta < 0x80:
-            at += 1
-        else:
-            delta, at = number(data, at)
+        delta, at = number(data, at)
         if delta:
             ticks += delta
-            seconds += delta * tempo
+            time += delta * tempo
         kind, length, at = data[at + 1], data[at + 2], at + 3
         if kind == TEMPO:
             tempo = int.from_bytes(data[at : at + length], "big")
@@ -61,9 +96,7 @@ def facts_of(data: bytes) -> Facts:
         elif length >= 0x80:  # a title: no other event is as long
             length, at = number(data, at - 1)
         at += length
-    beats = round(60 * MICROSECONDS / first_tempo, 2)
-    tracks = data[at:]
-    return Facts(key, meter, beats, ticks, round(seconds / TICKS_OF_QUARTER / MICROSECONDS, 3), data[11] - 1, *notes_of(tracks))
+    return Conductor(key, meter, first_tempo, ticks, time, at)
 
 
 def key_name(sharps: int, is_minor: int) -> str:
