@@ -6,7 +6,6 @@ from typing import Any
 
 import test_page_in_browser
 from browser_keys import CONTROL, F8
-from selenium.webdriver.common.action_chains import ActionChains
 
 ENTER, ARROW_UP, ARROW_LEFT, HOME = "\ue007", "\ue013", "\ue012", "\ue011"
 PARTS = ("sheet", "faults", "tunes", "score", "roll", "play", "told", "list")
@@ -47,12 +46,19 @@ class Room(test_page_in_browser.Browser):
 
     def drag(self, identifier: str, right: int, down: int) -> None:
         """Drags a bar with the mouse."""
+        from selenium.webdriver.common.action_chains import ActionChains  # which is not installed everywhere
+
         bar = self.driver.find_element("id", identifier)
         ActionChains(self.driver, duration=0).click_and_hold(bar).move_by_offset(right // 2, down // 2).move_by_offset(right - right // 2, down - down // 2).release().perform()
 
     def extent(self, identifier: str) -> Any:
         """The width and the height of a part."""
         return self.run_script(SIZE, identifier)
+
+    def resize(self, wide: int, high: int) -> None:
+        """Gives the page another size, and waits till its parts have seen it."""
+        self.size(wide, high)
+        self.driver.execute_async_script("requestAnimationFrame(() => setTimeout(arguments[0]))")
 
     def view(self, identifier: str) -> None:
         """Clicks a control of the dialog of the parts."""
@@ -62,8 +68,7 @@ class Room(test_page_in_browser.Browser):
         """The text has six lines, and all parts can be reached, also while one practises."""
         for practises in (False, True):
             for wide, high in ((683, 330), (844, 390), (390, 500), (1366, 400)):
-                self.size(wide, high)
-                self.driver.execute_async_script("requestAnimationFrame(() => setTimeout(arguments[0]))")
+                self.resize(wide, high)
                 lines, scrolls, _ = self.run_script(LINES)
                 self.assertGreaterEqual(lines, 6, (wide, high))
                 self.assertTrue(scrolls, (wide, high))
@@ -74,14 +79,14 @@ class Room(test_page_in_browser.Browser):
     def test_usual_windows(self) -> None:
         """Nothing scrolls that need not."""
         for wide, high in ((1366, 768), (1920, 1080), (820, 1180)):
-            self.size(wide, high)
+            self.resize(wide, high)
             lines, scrolls, _ = self.run_script(LINES)
             self.assertGreaterEqual(lines, 8, (wide, high))
             self.assertFalse(scrolls, (wide, high))
 
     def test_bars_by_mouse(self) -> None:
         """Each gives the part beside it more room, selects nothing, and keeps its place when the page is loaded again."""
-        self.size(1366, 768)
+        self.resize(1366, 768)
         for bar, part, right, down, at in (("split-tunes", "tunes", -120, 0, 0), ("split-faults", "faults", 0, -40, 1), ("split-music", "music", 0, -60, 1), ("split-roll", "score", 150, 0, 0)):
             before = self.extent(part)[at]
             self.drag(bar, right, down)
@@ -93,7 +98,7 @@ class Room(test_page_in_browser.Browser):
 
     def test_bars_by_keys(self) -> None:
         """Arrows move a bar by a twentieth of the window, Enter gives the usual size. A screen reader hears the size."""
-        self.size(1366, 768)
+        self.resize(1366, 768)
         for bar, part, key, at, window in (("split-music", "music", ARROW_UP, 1, 768), ("split-tunes", "tunes", ARROW_LEFT, 0, 1366)):
             usual = self.extent(part)[at]
             self.run_script("document.getElementById(arguments[0]).focus()", bar)
@@ -105,7 +110,7 @@ class Room(test_page_in_browser.Browser):
             self.assertAlmostEqual(self.extent(part)[at], usual, delta=1)
 
     def test_bars_by_touch(self) -> None:
-        self.size(390, 844)
+        self.resize(390, 844)
         self.run_script(BEFORE, "split-music")
         before = self.extent("music")[1]
         x, y = self.run_script("const { left, top, width, height } = document.getElementById('split-music').getBoundingClientRect(); return [left + width / 2, top + height / 2]")
@@ -118,7 +123,7 @@ class Room(test_page_in_browser.Browser):
         """Each can be hidden, which is kept, and each can be the whole window; a key that goes to a fault shows the text again."""
         names = ["text", "faults", "tunes", "score", "roll"]
         for wide, high in ((1366, 768), (390, 844)):
-            self.size(wide, high)
+            self.resize(wide, high)
             for name in names:
                 self.view(f"view-{name}")
                 self.assertEqual(self.run_script(SHOWN), [one for one in names if one != name and not (name == "text" and one == "faults")])
