@@ -9,7 +9,7 @@
  * @property {boolean} score whether it draws scores
  * @property {boolean} zip whether it puts the MIDI files of all tunes into a .zip
  * @property {boolean} [midi] whether it reads MIDI files
- * @property {boolean} [codes] whether it makes QR codes, and keeps the address to which links lead */
+ * @property {boolean} [codes] whether it makes QR codes, and keeps the address to which links lead: else that is the page's own */
 /** A host. `ask` and `bytes` take the names that a server has, such as "book", "edit" or "midi/1".
  * @typedef {object} BookHost
  * @property {string} called its name in a sentence, after "the"

@@ -1,9 +1,9 @@
-// A tune as a sound file, as it is heard: at the tempo, with the volumes and without the silent voices of the player.
+// A tune as a sound, as it is heard: at the tempo, with the volumes and without the silent voices of the player.
 
 import { secondOf } from "./midi_file.js";
 import { outletOf } from "./player.js";
+import { stopped } from "./sound_files.js";
 import { soundNote } from "./synth_sounds.js";
-import { wavOf } from "./wav_file.js";
 
 /** @typedef {import("./midi_file.js").Score} Score
  * @typedef {import("./player.js").Player} Player */
@@ -11,17 +11,24 @@ import { wavOf } from "./wav_file.js";
 const RATE = 44100;
 const TAIL = 1.5; // seconds in which the last notes die away
 const MOST = 1200; // seconds
+const EVERY = 5; // seconds of the sound between two looks at what is done
 
-/** The bytes of the file. Throws if the tune is too long.
- * @type {(score: Score, player: Player) => Promise<ArrayBuffer>} */
-export async function recorded(score, player) {
+/** The sound of a tune. Throws if the tune is too long, or the making is stopped.
+ * @type {(score: Score, player: Player, making: import("./sound_files.js").Making) => Promise<AudioBuffer>} */
+export async function recorded(score, player, { signal, progress }) {
   const seconds = secondOf(score, score.end) / player.speed + TAIL;
   if (seconds > MOST) throw new Error("the tune is longer than 20 minutes");
-  const audio = new OfflineAudioContext(2, Math.ceil(seconds * RATE), RATE);
-  await player.font?.loadAll(audio, score.notes.map((note) => player.shifted(note)));
+  const audio = new OfflineAudioContext(2, Math.ceil(seconds * RATE), RATE), end = stopped(signal);
+  await Promise.race([end, player.font?.loadAll(audio, score.notes.map((note) => player.shifted(note)))]);
   soundAll(audio, score, player);
-  const sound = await audio.startRendering();
-  return wavOf([sound.getChannelData(0), sound.getChannelData(1)], RATE);
+  for (let at = EVERY; at < seconds && "suspend" in audio; at += EVERY) {
+    const look = () => {
+      progress(at / seconds);
+      if (!signal.aborted) void audio.resume(); // else the browser makes no more of it
+    };
+    audio.suspend(at).then(look, () => {});
+  }
+  return Promise.race([end, audio.startRendering()]);
 }
 
 /** Sounds all notes of a tune.

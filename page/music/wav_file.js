@@ -2,19 +2,10 @@
 
 const HEAD = 44; // bytes before the numbers
 
-/** The file of some channels, whose numbers are from -1 to 1.
- * @type {(channels: Float32Array[], rate: number) => ArrayBuffer} */
-export function wavOf(channels, rate) {
-  const count = channels[0].length, size = 2 * channels.length * count, view = new DataView(new ArrayBuffer(HEAD + size));
-  writeHead(view, channels.length, rate, size);
-  channels.forEach((numbers, channel) => writeNumbers(view, numbers, HEAD + 2 * channel, 2 * channels.length));
-  return view.buffer;
-}
-
-/** Writes what precedes the numbers.
- * @type {(view: DataView, channels: number, rate: number, size: number) => void} */
-function writeHead(view, channels, rate, size) {
-  const each = 2 * channels;
+/** What precedes the numbers of a file of some channels, each of as many numbers as there are frames.
+ * @type {(channels: number, rate: number, frames: number) => ArrayBuffer} */
+export function wavHead(channels, rate, frames) {
+  const each = 2 * channels, size = each * frames, view = new DataView(new ArrayBuffer(HEAD));
   writeWord(view, 0, "RIFF");
   view.setUint32(4, HEAD - 8 + size, true);
   writeWord(view, 8, "WAVE");
@@ -28,6 +19,15 @@ function writeHead(view, channels, rate, size) {
   view.setUint16(34, 16, true); // bits
   writeWord(view, 36, "data");
   view.setUint32(40, size, true);
+  return view.buffer;
+}
+
+/** The numbers of some channels, which are from -1 to 1, as they follow each other in a file.
+ * @type {(channels: Float32Array[]) => ArrayBuffer} */
+export function wavNumbers(channels) {
+  const view = new DataView(new ArrayBuffer(2 * channels.length * channels[0].length));
+  channels.forEach((numbers, channel) => writeNumbers(view, numbers, 2 * channel, 2 * channels.length));
+  return view.buffer;
 }
 
 /** @type {(view: DataView, at: number, word: string) => void} */

@@ -11,6 +11,7 @@ import { DifferencesDialog } from "../dialogs/differences_dialog.js";
 import { HintKinds } from "../dialogs/hint_kinds.js";
 import { InstrumentDialog } from "../dialogs/instrument_dialog.js";
 import { SetDialog } from "../dialogs/set_dialog.js";
+import { ShareDialog } from "../dialogs/share_dialog.js";
 import { TidyDialog } from "../dialogs/tidy_dialog.js";
 import { TransposeDialog } from "../dialogs/transpose_dialog.js";
 import { TuneFiles } from "../dialogs/tune_downloads.js";
@@ -114,6 +115,7 @@ export class Application {
     this.undoButtons = new UndoButtons(sheet);
     this.completing = new Completing(sheet, find("completion"), () => findings.tunes);
     new InstrumentDialog({ link, sheet, findings, caretTune: this.caretTune, words: () => this.completing.words, say, undoKey });
+    new ShareDialog(this);
     this.sets = new SetDialog({ sheet, findings, caretTune: this.caretTune, player: new SetPlayer(this.music, say, () => this.showTune()) });
     this.showTune = onceAFrame(() => this.show());
   }

@@ -1,6 +1,7 @@
 // Opens the page without a server: over the compiler in a worker, and what the browser keeps.
 
 import { find } from "../base/elements.js";
+import { textIn } from "../dialogs/share_link.js";
 import { Drafts } from "../link/draft_store.js";
 import { Application } from "../shell/application.js";
 import { Keeper } from "./book_keeper.js";
@@ -10,8 +11,6 @@ import { BooksDialog } from "./books_dialog.js";
 import { lackingFeatures } from "./browser_features.js";
 import { keepOffline } from "./offline.js";
 import { PickedFile, canPick, pickToOpen, pickToSave } from "./picked_file.js";
-import { ShareDialog } from "./share_dialog.js";
-import { textIn } from "./share_link.js";
 import { WorkerBook } from "./worker_book.js";
 
 /** @typedef {import("./worker_book.js").Opening} Opening
@@ -35,7 +34,6 @@ class StaticPage {
     /** @type {BookLock | null} */
     this.lock = null;
     this.isLeaving = false; // the page is loaded anew
-    new ShareDialog(this.page);
     this.books = new BooksDialog({
       books: async () => (await this.store?.books().catch(() => null)) ?? [],
       opened: (id) => this.go(id),

@@ -23,13 +23,17 @@ def proof(key: str, who: str, port: int, run: str, nonce: str) -> str:
     return hmac.new(bytes.fromhex(key), f"{who} {port} {run} {nonce}".encode(), "sha256").hexdigest()
 
 
+def state_folder() -> Path:
+    """The folder of what the servers of a user keep. Without a home it raises RuntimeError, before Python 3.10 KeyError."""
+    return Path(os.environ.get("XDG_STATE_HOME") or Path.home() / ".local/state") / "abc2midi_live"
+
+
 def book_key(path: Optional[str]) -> str:
     """The secret of a book, one and the same for each start. It is in a file that nobody else may read. If there can be no such
     file, the secret is this start's alone."""
     key = secrets.token_hex(32)
     with suppress(OSError, ValueError, RuntimeError, KeyError):  # without a home RuntimeError, before Python 3.10 KeyError
-        state = Path(os.environ.get("XDG_STATE_HOME") or Path.home() / ".local/state")
-        file = state / "abc2midi_live/keys" / digest(os.fsencode(path or ""))[:32]
+        file = state_folder() / "keys" / digest(os.fsencode(path or ""))[:32]
         file.parent.mkdir(mode=0o700, parents=True, exist_ok=True)
         return kept_key(file, key) or key
     return key

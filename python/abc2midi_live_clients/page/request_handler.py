@@ -16,6 +16,7 @@ from typing import TYPE_CHECKING, Any, Optional, Union
 from ..common.json_object import Json
 from .refused import Refused
 from .served_files import CACHED_FOR_A_YEAR
+from .sharing import code_of, keep_address, kept_address
 from .web_socket import BadMessage, WebSocket, answering_headers, asks_for_socket, version
 from .window_requests import WINDOW
 
@@ -141,7 +142,7 @@ class Request(BaseHTTPRequestHandler):
         changes = re.fullmatch(r"changes/([0-9]{1,15})", name)
         news = re.fullmatch(rf"(events|news)/([0-9]{{1,15}})/({WINDOW.pattern})", name, re.ASCII)
         book = self.server.book
-        answers = {"saved": book.saved_lines, "disk": book.lines_on_disk, "state": book.now, "hints": book.hints_now, "pdf": self.server.pdfs.needs}
+        answers = {"saved": book.saved_lines, "disk": book.lines_on_disk, "state": book.now, "hints": book.hints_now, "pdf": self.server.pdfs.needs, "share": kept_address}
         if name in self.server.files.by_name:
             self.send(*self.server.files.by_name[name])
         elif name in answers:
@@ -179,13 +180,14 @@ class Request(BaseHTTPRequestHandler):
         return name == "font" or bool(font and (program or samples))
 
     def post(self, name: Optional[str]) -> None:
-        """Follows an edit, looks at lines and a tune, saves the book or a copy, loads the book from disk, draws tunes, or reads a MIDI file."""
+        """Follows an edit, looks at lines and a tune, saves the book or a copy, loads the book from disk, draws tunes, reads
+        a MIDI file, or keeps the address to which links lead and makes QR codes of them."""
         book = self.server.book
         if name == "score":
             self.send(self.server.scorer.answer(self.body()), "application/json")
             return
         saves = {"save": book.save, "save-in-utf-8": book.save_in_utf8, "save-as": book.save_as}
-        others = {"pdf": self.server.pdfs.answer, "midi-tune": self.server.midi_files.answer}
+        others = {"pdf": self.server.pdfs.answer, "midi-tune": self.server.midi_files.answer, "share": keep_address, "code": code_of}
         known = {"edit": book.edit, "view": book.view, **saves, "load": book.load, **others}
         follow = known.get(name or "")
         if follow is None:

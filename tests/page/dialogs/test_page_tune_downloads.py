@@ -17,7 +17,7 @@ SVG = "{http://www.w3.org/2000/svg}"
 
 class Scripts(page_in_node.PageScripts):
     def test_scripts(self) -> None:
-        self.assert_ok("dialogs/page_tune_downloads.mjs", 5)
+        self.assert_ok("dialogs/page_tune_downloads.mjs", 11)
 
 
 class Stored(test_page_in_browser.Browser):
@@ -57,6 +57,29 @@ class Stored(test_page_in_browser.Browser):
         loud, silent = ([abs(number) for number in numbers[2 * 44100 * begin // 20 : 2 * 44100 * end // 20]] for begin, end in ((1, 9), (40, 50)))
         self.assertGreater(max(loud), 2000)
         self.assertLess(max(silent), 50)
+
+    def test_a_sound_that_is_stopped(self) -> None:
+        """Nothing is stored. The page says what is done, and another sound can be made."""
+        self.edit(3, 4, "Q:1/4=24")
+        self.wait(lambda: self.text("time").endswith("0:10"))
+        self.run_script(DOWNLOADS)
+        self.run_script("const { resume } = OfflineAudioContext.prototype; OfflineAudioContext.prototype.resume = function () { window.waits = () => resume.call(this); }")
+        self.run_script("document.getElementById('save-as').click()")
+        self.driver.find_element("id", "tune-sound").click()
+        self.wait(lambda: self.run_script("return window.waits") is not None)
+        self.assertRegex(self.text("making-words"), r"^Sound: \d+ %$")
+        self.assertTrue(self.run_script("return document.getElementById('tune-sound').disabled"))
+        self.driver.find_element("id", "making-stop").click()
+        self.wait(lambda: self.text("status") == "Stopped: there is no sound file.")
+        self.assertEqual(self.run_script("return [downloads.length, document.getElementById('making').hidden, document.getElementById('tune-sound').disabled]"), [0, True, False])
+
+    def test_the_small_sound(self) -> None:
+        """It is a file of Opus, which the browser recorded."""
+        name, data = self.stored_file("tune-opus")
+        self.assertRegex(name, r"^7 The Kesh\.(webm|ogg)$")
+        self.assertIn(data[:4], (b"\x1a\x45\xdf\xa3", b"OggS"))
+        self.assertIn(b"OpusHead", data)
+        self.assertGreater(len(data), 2000)
 
     @unittest.skipUnless(shutil.which("abcm2ps"), "abcm2ps is not installed")
     def test_the_score(self) -> None:

@@ -2,7 +2,6 @@
 
 import json
 import random
-import shutil
 import sys
 from pathlib import Path
 from typing import Any, Optional
@@ -76,3 +75,73 @@ class Sounding(PlayedTexts):
     def test_random_tunes(self) -> None:
         texts = [line_tune for line_tune in (random_music(self.chance, 1)[:-1] for _ in range(TUNES))]
         self.assertGreater(self.assert_sounds(texts), TUNES)
+
+
+class Playing(test_page_in_browser.Browser):
+    """Someone who plays on a stand-in for a keyboard."""
+
+    opening = b"X:1\nT:Reel\nL:1/4\nK:D\nD\n\nX:2\nK:Eb clef=treble-8\n"
+
+    def switch(self, machine: str = KEYBOARD) -> None:
+        """Presses the switch, in a browser with a machine."""
+        self.run_script(machine)
+        self.driver.find_element("id", "keyboard").click()
+
+    def play(self, *keys: int) -> None:
+        """Presses keys together."""
+        self.run_script(PRESS, *keys)
+
+    def caret(self, line: int, column: int) -> None:
+        self.run_script(f"const area = {AREA}; const at = area.value.split('\\n').slice(0, arguments[0]).join('\\n').length + (arguments[0] ? 1 : 0) + arguments[1]; area.focus(); area.setSelectionRange(at, at)", line, column)
+
+    def test_notes(self) -> None:
+        """Each is a step, in the key of the tune and with the accidentals of the bar; keys together are a chord."""
+        begin = self.opening.decode().split("\n")
+        self.switch()
+        self.wait(lambda: self.text("status") == "What is played on Stand-in is written at the caret.")
+        self.caret(4, 1)
+        wanted = "D"
+        for keys, note in (((66,), "F"), ((65,), "=F"), ((66, 69, 62), "[D^FA]"), ((78,), "f")):
+            self.play(*keys)
+            wanted += note
+            self.wait_for_lines(*begin[:4], wanted, *begin[5:])
+        self.press("|")
+        self.run_script("document.getElementById('keyboard-length').value = '3/2'")
+        self.play(66)
+        self.wait_for_lines(*begin[:4], f"{wanted}|F3/2", *begin[5:])
+        for left in (f"{wanted}|", wanted):
+            self.press("z", CONTROL)
+            self.wait_for_lines(*begin[:4], left, *begin[5:])
+
+    def test_where_there_is_no_place(self) -> None:
+        """A sentence says so; below a K: there is one, with the clef of that tune."""
+        begin = self.opening.decode().split("\n")
+        self.switch()
+        self.caret(1, 3)
+        self.play(60)
+        self.wait(lambda: self.text("status").startswith("Not written: put the caret among the notes"))
+        self.caret(5, 0)
+        self.play(60)
+        self.wait_for_lines(*begin[:5], "=c", *begin[6:])
+        self.press("z", CONTROL)
+        self.caret(8, 0)
+        self.play(63, 67)
+        self.wait_for_lines(*begin[:8], "[eg]")
+
+    def test_the_switch(self) -> None:
+        """It shows whether the keyboard is heard. Pressed again it hears no more."""
+        seen = "const button = document.getElementById('keyboard'); return [button.ariaPressed, document.getElementById('keyboard-length-label').hidden]"
+        self.assertEqual(self.run_script(seen), ["false", True])
+        self.switch()
+        self.wait(lambda: self.run_script(seen) == ["true", False])
+        self.driver.find_element("id", "keyboard").click()
+        self.wait(lambda: self.run_script(seen) == ["false", True])
+        self.assertIsNone(self.run_script("return window.access.inputs.get('a').onmidimessage"))
+
+    def test_a_browser_that_has_none_or_refuses(self) -> None:
+        for machine, words in ((NONE, "This browser has no Web MIDI."), (REFUSING, "The browser does not let this page hear a MIDI keyboard.")):
+            self.switch(machine)
+            self.wait(lambda: self.text("status").startswith(words))
+            self.assertEqual(self.run_script("return document.getElementById('keyboard').ariaPressed"), "false")
+        self.switch(KEYBOARD.replace('["a", {', '["b", {').replace('state: "connected"', 'state: "disconnected"'))
+        self.wait(lambda: self.text("status") == "No MIDI keyboard is connected. Connect one: it is heard at once.")

@@ -54,6 +54,16 @@ class Dragging(test_page_in_browser.Browser):
         self.type("zz", CONTROL)
         self.wait_for_lines("X:1", "L:1/4", "K:D", "DF^GA|", "")
 
+    def test_a_note_of_a_chord(self) -> None:
+        """The head at which the mouse points moves, and the others stay."""
+        self.edit(3, 4, "[DFA]2GAB|")
+        self.drawn()
+        for head, wanted in ((1, "[DGA]2GAB|"), (2, "[DGB]2GAB|"), (0, "[EGB]2GAB|")):
+            self.run_script(DRAG.replace("y = top + height / 2", f"y = place.getScreenCTM().f + place.getScreenCTM().d * place.note.heads[{head}]"), 3, 0, 1)
+            self.wait_for_lines("X:1", "L:1/4", "K:D", wanted, "")
+            self.assertEqual(self.run_script("return document.querySelectorAll('.score-dragged').length"), 0)
+            self.drawn()
+
     def test_a_selection(self) -> None:
         """Its notes are marked in the score."""
         self.drawn()

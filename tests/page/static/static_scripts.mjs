@@ -49,7 +49,7 @@ const { Keeper } = await from("static/book_keeper");
 const { Link } = await from("link/host_link");
 const { PickedFile, pickToOpen, pickToSave } = await from("static/picked_file");
 const { changed } = await from("link/finding_rows");
-const { linkOf, textIn } = await from("static/share_link");
+const { linkOf, textIn } = await from("dialogs/share_link");
 const { Text } = await from("text/text");
 const { WorkerBook } = await from("static/worker_book");
 

@@ -1,6 +1,9 @@
 """The tunes of a book: moved, sorted, numbered and deleted, and those of another book, in node and by keys in a browser."""
 
+import unittest
+
 import page_in_node
+import test_midi_tune
 import test_page_in_browser
 from browser_keys import CONTROL, ENTER, TAB
 
@@ -55,6 +58,28 @@ class Commands(test_page_in_browser.Browser):
         self.wait_for_lines(*self.lines[:-1], "", "X:6", "M:3/4", "T:Caf\u00e9 \u201cx\u201d", "K:D", "D|", "")
         self.wait(lambda: "1 tune of other.abc, 1 of them with another number" in self.text("status"))
         self.press("z", CONTROL)
+        self.wait_for_lines(*self.lines)
+
+    @unittest.skipUnless(test_midi_tune.READS, "midi2abc is not installed")
+    def test_a_midi_file(self) -> None:
+        """Its tune comes to the end, with the name of the file and a free number, in one step, and plays what the file has."""
+        other = self.folder / "My tune.mid"
+        other.write_bytes(test_midi_tune.SCALE)
+        self.press(F9)
+        self.driver.find_element("id", "order-midi-file").send_keys(str(other))
+        self.wait(lambda: self.text("status").startswith("Took in My tune.mid, as midi2abc reads it."))
+        lines = self.book()["lines"]
+        self.assertEqual((lines[:9], [line.replace(" ", "") for line in lines[9:12]]), (self.lines[:-1], ["", "X:6", "T:Mytune"]))
+        self.assertEqual("".join(lines[-2].split()), "CDEFGABc|")
+        self.press("z", CONTROL)
+        self.wait_for_lines(*self.lines)
+
+    def test_a_file_that_has_no_tune(self) -> None:
+        other = self.folder / "x.mid"
+        other.write_bytes(b"x")
+        self.press(F9)
+        self.driver.find_element("id", "order-midi-file").send_keys(str(other))
+        self.wait(lambda: "midi2abc" in self.text("status"))
         self.wait_for_lines(*self.lines)
 
     def test_by_keys_alone(self) -> None:

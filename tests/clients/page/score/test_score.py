@@ -227,7 +227,7 @@ class Markup(unittest.TestCase):
                 ["use", {"x": "3", "y": "4", "href": "#score-hd"}],
                 ["rect", {"x": "1", "y": "2", "width": "3", "height": "4", "class": "score-paper"}],
                 ["text", {}, "2"],
-                ["place", {"kind": "note", "row": 3, "col": 0, "x": "-4.00", "y": "2", "width": "14.00", "height": "4"}],
+                ["place", {"kind": "note", "row": 3, "col": 0, "x": "-4.00", "y": "2", "width": "14.00", "height": "4", "heads": [4.0]}],
             ],
         )  # fmt: skip
 
@@ -236,13 +236,14 @@ class Markup(unittest.TestCase):
         (place,) = self.shown('<abc type="N" row="3" col="0" x="1" y="140" width="3" height="-125"/>')
         self.assertEqual((place[1]["y"], place[1]["height"]), ("15.00", "125.00"))
 
-    def test_the_breadth_of_notes(self) -> None:
-        """It is that of the heads, which are drawn before a note's place, and not that of the words below it."""
+    def test_the_heads_of_notes(self) -> None:
+        """The breadth is that of the heads, which are drawn before a note's place, and not that of the words below it. The heights of heads go
+        from the lowest one on."""
         place = '<abc type="{}" row="3" col="0" x="1" y="2" width="99" height="4"/>'
-        heads = '<defs><g id="hd"/><g id="ghd"/><g id="r4"/></defs><use x="{}" xlink:href="#{}"/>'
-        chord = heads.format(20, "hd") + heads.format(28.5, "hd") + heads.format(10, "r4") + place.format("N")
-        found = [node[1] for node in self.shown(chord + heads.format(60, "r4") + place.format("R")) if node[0] == "place"]
-        self.assertEqual([(one["x"], one["width"]) for one in found], [("13.00", "22.50"), ("1", "99")])
+        heads = '<defs><g id="hd"/><g id="ghd"/><g id="r4"/></defs><use x="{}" y="{}" xlink:href="#{}"/>'
+        chord = heads.format(20, 84, "hd") + heads.format(28.5, 87, "hd") + heads.format(10, 99, "r4") + place.format("N")
+        found = [node[1] for node in self.shown(chord + heads.format(60, 60, "r4") + place.format("R")) if node[0] == "place"]
+        self.assertEqual([(one["x"], one["width"], one.get("heads")) for one in found], [("13.00", "22.50", [87, 84]), ("1", "99", None)])
 
     def test_unknown_elements(self) -> None:
         """They are left out with all that is in them."""

@@ -1,6 +1,6 @@
 // A link that has a tune in its fragment. A browser sends no fragment to a server.
 
-import { bytesOfBase64 } from "../base/base64.js";
+import { base64Of, bytesOfBase64 } from "../base/base64.js";
 
 export const MOST_CHARACTERS = 8000; // of a link: programs cut longer ones
 const MOST_BYTES = 1_000_000; // of the text in a link: a short link may unpack to a long text
@@ -57,6 +57,5 @@ async function piped(bytes, stream) {
 /** Bytes as letters that may be in a fragment: base 64, as in addresses.
  * @type {(bytes: Uint8Array) => string} */
 function lettersOf(bytes) {
-  const text = Array.from(bytes, (byte) => String.fromCharCode(byte)).join("");
-  return btoa(text).replaceAll("+", "-").replaceAll("/", "_").replaceAll("=", "");
+  return base64Of(bytes).replaceAll("+", "-").replaceAll("/", "_").replaceAll("=", "");
 }
