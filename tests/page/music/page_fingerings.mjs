@@ -28,7 +28,7 @@ const tests = {
   "a fiddle has four strings a fifth apart, and four fingers"() {
     same([55, 57, 59, 60, 62, 64, 66, 67, 69].map((key) => place("fiddle", key)), ["G 0 0", "G 2 1", "G 4 2", "G 5 3", "D 0 0", "D 2 1", "D 4 2", "D 5 3", "A 0 0"]);
     same([83, 84, 54].map((key) => place("fiddle", key)), ["E 7 4", null, null]);
-    same([76, 78, 84].map((key) => place("mandolin", key)), ["E 0 0", "E 2 1", "E 8 "]);
+    same([76, 78, 84, 93, 94].map((key) => place("mandolin", key)), ["E 0 0", "E 2 1", "E 8 ", "E 17 ", null]);
   },
 
   "a guitar has its notes on the highest string that has them"() {

@@ -61,6 +61,7 @@ const tests = {
     same(each([66, 70, 61], "Gb"), "G B D");
     same(each([60, 67, 62], "C#"), "B, ^^F ^^C");
     same(each([62, 64], "Cb"), "__E F");
+    same([each([65, 71], "F#"), each([60, 73], "D =c")], ["E B", "C ^c"]);
   },
 
   "octaves are written by letters and marks"() {
@@ -74,10 +75,14 @@ const tests = {
     same(each([65, 66], "G", music("=F", "G")), "F ^F");
     same(each([65, 66], "C", music("[C^F]")), "=F F");
     same(each([65], "C", music("^E")), "F");
+    same(each([65], "C", music("^E", "^F")), "=F");
+    same(each([65], "C", music(`[${"C".repeat(16)}^F]`)), "F");
+    same(spelled([66], contextAt([], [field("K:C"), music("A", "^F")], { line: 1, column: 1 }), ""), "^F");
     same(each([66], "C", music("{^F}")), "^F");
     same(each([66], "C", music("^F"), music()), "F");
     same(each([66], "C", music("^F"), field("P:A"), music()), "^F");
     same(each([66], "C", music("^F"), field("P:1"), music()), "F");
+    same(each([66], [field("V:1"), field("V:2"), field("K:C")], music("[V:2]", "^F", "[V:1]"), field("P:A"), music("[V:2]")), "^F");
   },
 
   "a key of the body begins there, for its voice"() {
@@ -96,6 +101,8 @@ const tests = {
     same(each([66, 60], "C", music("[^F-^C]", "|")), "F C");
     same(each([61], "C", music("[^F-^C]", "|")), "^C");
     same(each([66, 61], "C", music("[^F^C]", "-", "Z", "|")), "F C");
+    same(each([66], "C", line(["Note", "^F"], ["Blank", " "], ["Tie", "-"], ["BarLine", "|"])), "^F");
+    same(each([65], "C", music("[^F-=F]")), "F");
   },
 
   "accidentals reach as far as the directive says"() {
@@ -103,7 +110,7 @@ const tests = {
     same([each([66, 78], reach("octave"), music("^F")), each([66, 78], reach("not"), music("^F"))], ["F ^f", "^F ^f"]);
     const file = contextAt(["%%propagate-accidentals not % x", "%%propagate-accidentals none"], [field("K:C"), music("^F")], { line: 1, column: 2 });
     same(spelled([66, 78], file, ""), "[^F^f]");
-    same(each([66], "C", music("^F"), line(["Directive", "%%propagate-accidentals not"]), music()), "F");
+    same(each([78], "C", music("^F"), line(["Directive", "%%propagate-accidentals octave"]), music()), "f");
   },
 
   "clefs and properties of the voice shift what is written"() {
@@ -112,6 +119,7 @@ const tests = {
     same(each([60], "C transpose=-2"), "D");
     same(each([60], [field("V:1 bass+8 octave=-1 transpose=2"), field("K:C transpose=5")]), "_B,");
     same(each([60], [field("V:1 octave=-1"), field("K:C octave=1 transpose=12")]), "C");
+    same(each([60], [field("V:1 octave=1"), field("V:2"), field("K:C")]), "C,");
     same(each([60], [field("V:1"), field("V:2 octave=x"), field("K:C")], music("[V:1 octave=1]", "[V:2]")), "C");
     same([shiftIn(["clef=\"treble-8\""]).clef, shiftIn(["alto+8", "clef=bass"]).clef, shiftIn(["treble"]).clef, shiftIn(["octave=1.5"])], [-12, 0, null, null]);
   },

@@ -8,6 +8,7 @@ import { run, same } from "../testing.mjs";
 const folder = process.argv[2];
 const { scoreOf } = await import(pathToFileURL(`${folder}/music/midi_file.js`));
 const { Player } = await import(pathToFileURL(`${folder}/music/player.js`));
+const { HEARD, SHOWN } = await import(pathToFileURL(`${folder}/music/transposition.js`));
 
 // A quarter note of middle C, and one of D: half a second each.
 const FILE = "4D546864 00000006 0001 0002 01E0 4D54726B 00000004 00 FF2F00 4D54726B 00000016 00 903C40 8360 803C40 00 903E40 8360 803E40 00 FF2F00";
@@ -309,6 +310,12 @@ const tests = {
     same(numbers, [0, 1, 1, 2, 3, 1, 1, 0]);
     player.stop();
     same(player.counted, 0);
+  },
+
+  "what is heard and what is shown are as far from the text as the instruments sound"() {
+    const far = (choices) => Object.fromEntries(choices.map(({ name, semitones }) => [name, semitones]));
+    same(far(HEARD), { "": 0, "B♭": -2, "E♭": -9, F: -7, "capo 1": 1, "capo 2": 2, "capo 3": 3, "capo 4": 4, "capo 5": 5, "capo 6": 6, "capo 7": 7 });
+    same(far(SHOWN), { "": 0, "B♭": 2, "E♭": 9, F: 7, "capo 1": -1, "capo 2": -2, "capo 3": -3, "capo 4": -4, "capo 5": -5, "capo 6": -6, "capo 7": -7 });
   },
 
   async "a loop is heard later too"() {

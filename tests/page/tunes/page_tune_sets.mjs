@@ -29,6 +29,8 @@ const tests = {
     const items = [{ number: 12, times: 3 }, { number: 7, times: 1 }];
     same(lineOf(' The "late" one ', items), "% Set \"The 'late' one\": 12 x3, 7");
     same(setsIn([lineOf("Evening", items)], 1), [{ line: 0, name: "Evening", items }]);
+    const many = Array.from({ length: 51 }, (_, n) => ({ number: n + 1, times: 1 })), words = many.map(({ number }) => number);
+    same([lineOf("a", many), setsIn([`% Set "a": ${words}`], 1)[0].items.length], [`% Set "a": ${words.slice(0, 50).join(", ")}`, 50]);
     same([timesOf(0), timesOf(NaN), timesOf(2.9), timesOf(21)], [1, 1, 2, 20]);
   },
 
