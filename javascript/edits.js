@@ -3,22 +3,33 @@
 import { FEED, MOST_LINES, countLines } from "./lines.js";
 
 const MOST_EDITS = 1000; // for one change of a text
+const WORD = 4; // bytes that are compared at once
 const oneByteEach = new TextDecoder("latin1"); // different bytes become different characters
+
+/** A view of bytes, which reads words at any place. */
+const viewOf = ({ buffer, byteOffset, byteLength }) => new DataView(buffer, byteOffset, byteLength);
 
 /** How many bytes are the same at the front of both texts. */
 function commonFront(old, now) {
-  const most = Math.min(old.length, now.length);
+  const most = Math.min(old.length, now.length), before = viewOf(old), after = viewOf(now);
   let n = 0;
+  while (n + WORD <= most && before.getInt32(n) === after.getInt32(n)) n += WORD;
   while (n < most && old[n] === now[n]) n += 1;
   return n;
 }
 
 /** How many bytes are the same at the back of both texts, after those that are the same at the front. */
 function commonBack(old, now, front) {
-  const most = Math.min(old.length, now.length) - front;
+  const most = Math.min(old.length, now.length) - front, before = viewOf(old), after = viewOf(now);
   let n = 0;
+  while (n + WORD <= most && before.getInt32(old.length - n - WORD) === after.getInt32(now.length - n - WORD)) n += WORD;
   while (n < most && old[old.length - 1 - n] === now[now.length - 1 - n]) n += 1;
   return n;
+}
+
+/** How many of the `lines` of a text end at a place or before it, counted on the shorter side of it. */
+function linesBefore(text, at, lines) {
+  return 2 * at < text.length ? countLines(text.subarray(0, at)) : lines - countLines(text.subarray(at));
 }
 
 /** The place at which the line begins that has the byte of a place. */
@@ -112,17 +123,18 @@ function merged(edits, old, most) {
   });
 }
 
-/** Few edits that make the text `now` of `old`, rising, with lines of `old`, counted from 0: those from `start` to `stop` become
- * the lines of `text`. If they are made from the last to the first, the text never has too many lines if neither text has. */
-export function fewEdits(old, now) {
+/** Few edits that make the text `now` of `old`, which has `lines` lines, rising, with lines of `old`, counted from 0: those from `start`
+ * to `stop` become the lines of `text`. If they are made from the last to the first, the text never has too many lines if neither
+ * text has. */
+export function fewEdits(old, now, lines) {
   const front = lineStart(old, commonFront(old, now));
   const back = commonLines(old, now, commonBack(old, now, front));
   const oldEnd = old.length - back, nowEnd = now.length - back;
   const oldLines = linesOf(old.subarray(front, oldEnd)), nowLines = linesOf(now.subarray(front, nowEnd));
   const found = editsOfLines(oldLines, nowLines);
   if (found.length === 0) return [];
-  const first = countLines(old.subarray(0, front));
-  const onTheWay = countLines(old) + found.reduce((sum, { from, to }) => sum + to - from, 0);
+  const first = linesBefore(old, front, lines);
+  const onTheWay = lines + found.reduce((sum, { from, to }) => sum + to - from, 0);
   const starts = [front];
   for (const line of nowLines) starts.push(starts.at(-1) + line.length + 1);
   return merged(found, oldLines, onTheWay > MOST_LINES ? 1 : MOST_EDITS).map(({ start, stop, from, to }) => ({

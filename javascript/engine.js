@@ -8,6 +8,7 @@ const NEWEST = new Uint8Array([
   0, 97, 115, 109, 1, 0, 0, 0, 1, 6, 1, 96, 1, 126, 1, 126, 3, 2, 1, 0, 5, 3, 1, 0, 1, 10, 16, 1, 14, 0, 65, 0, 65, 0, 65, 0, 252, 11, 0, 32, 0, 194,
   11,
 ]);
+const FORBIDDEN = "the policy of this page forbids WebAssembly: allow 'wasm-unsafe-eval' in the script-src of its Content-Security-Policy";
 const FILES = "node:fs/promises"; // a name that bundlers for browsers do not look for
 const MOST_ROOM = 65536, ROOM_STEP = 4096; // bytes of the block that an engine has for the texts and reports of edits
 const MOST_OF_UNIT = 3; // bytes of UTF-8 for a unit of UTF-16
@@ -16,6 +17,15 @@ const encoder = new TextEncoder();
 /** Whether this browser or program has the instructions that the module needs. */
 export function isSupported() {
   return typeof WebAssembly === "object" && WebAssembly.validate(NEWEST);
+}
+
+/** Whether the policy of this page forbids to compile modules, also one that it supports. */
+function isForbidden() {
+  try {
+    return !new WebAssembly.Module(NEWEST);
+  } catch {
+    return true;
+  }
 }
 
 /** The bytes of a module, or the module itself: what `WebAssembly.instantiate` takes. */
@@ -44,6 +54,7 @@ export class Engine {
   /** Loads the module: that of the package, or another one by its URL, its bytes or as a `WebAssembly.Module`. */
   static async load(source = MODULE) {
     if (!isSupported()) throw refusal(NotSupportedError);
+    if (!(source instanceof WebAssembly.Module) && isForbidden()) throw new NotSupportedError(FORBIDDEN);
     const made = await WebAssembly.instantiate(await content(source), {});
     return new Engine((made.instance ?? made).exports);
   }

@@ -45,7 +45,7 @@ export class TrapError extends AbcError {
   name = "TrapError";
 }
 
-/** This browser or program has no WebAssembly, or one that is too old for the module. */
+/** This browser or program has no WebAssembly, one that is too old for the module, or a policy of the page that forbids it. */
 export class NotSupportedError extends AbcError {
   name = "NotSupportedError";
 }

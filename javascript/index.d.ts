@@ -180,9 +180,9 @@ export class Session {
   line(number: number): string;
   /** The bytes of a line. Throws a `RangeError` if there is none. */
   lineBytes(number: number): Uint8Array;
-  /** The column in UTF-16 units of a column in bytes. */
+  /** The column in UTF-16 units of a column in bytes. A column outside of the line is that of its nearer end. */
   utf16Column(line: number, column: number): number;
-  /** The column in bytes of a column in UTF-16 units. */
+  /** The column in bytes of a column in UTF-16 units. A column outside of the line is that of its nearer end. */
   byteColumn(line: number, utf16Column: number): number;
   readonly work: Work;
 
@@ -209,7 +209,7 @@ export class PlayTooLong extends AbcError {}
 export class ClosedError extends AbcError {}
 /** The engine stopped in the middle of a call. Its sessions take no other call. */
 export class TrapError extends AbcError {}
-/** This browser or program has no WebAssembly, or one that is too old for the module. */
+/** This browser or program has no WebAssembly, one that is too old for the module, or a policy of the page that forbids it. */
 export class NotSupportedError extends AbcError {}
 /** The worker of a session does not start, or ended. */
 export class WorkerError extends AbcError {}

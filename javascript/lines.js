@@ -41,7 +41,8 @@ export function joined(lines) {
 export function bytesOfBook(text) {
   const all = bytesOfText(text);
   const bytes = MARK.every((byte, n) => all[n] === byte) ? all.subarray(MARK.length) : all;
-  return bytes.length && bytes.at(-1) !== FEED ? joined([bytes]) : bytes.slice();
+  if (bytes.length && bytes.at(-1) !== FEED) return joined([bytes]);
+  return all === text ? bytes.slice() : bytes; // the bytes of a caller may change later
 }
 
 /** How many lines a text has that ends with a line feed. */
@@ -79,9 +80,15 @@ function utf8Text(bytes) {
   }
 }
 
+/** The index of a column among `length` bytes or units. A column outside of the line is that of its nearer end. */
+function indexOf(column, length) {
+  if (!Number.isInteger(column)) throw new TypeError(`a column is an integer, not ${String(column)}`);
+  return Math.min(Math.max(column - 1, 0), length);
+}
+
 /** The column in UTF-16 units, from 1, at which the character begins that has the byte of a column. */
 export function utf16ColumnOf(bytes, column) {
-  let at = Math.min(column - 1, bytes.length);
+  let at = indexOf(column, bytes.length);
   if (utf8Text(bytes) === null) return at + 1;
   while ((bytes[at] & 0xc0) === 0x80) at -= 1;
   return utf8.decode(bytes.subarray(0, at)).length + 1;
@@ -105,8 +112,8 @@ export function utf16ColumnsOf(bytes) {
 /** The column in bytes, from 1, at which the character begins that has the unit of a column. */
 export function byteColumnOf(bytes, column) {
   const text = utf8Text(bytes);
-  if (text === null) return Math.min(column, bytes.length + 1);
-  const before = text.slice(0, column - 1);
-  const isHalf = /[\ud800-\udbff]$/.test(before) && column - 1 < text.length;
+  if (text === null) return indexOf(column, bytes.length) + 1;
+  const at = indexOf(column, text.length), before = text.slice(0, at);
+  const isHalf = /[\ud800-\udbff]$/.test(before) && at < text.length;
   return encoder.encode(isHalf ? before.slice(0, -1) : before).length + 1;
 }

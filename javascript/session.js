@@ -77,10 +77,10 @@ export class Session {
 
   setText(text) {
     this.#checkOpen();
-    const now = bytesOfBook(text), old = this.#text ?? this.#readText();
-    const edits = fewEdits(old, now);
+    const now = bytesOfBook(text), old = this.#text ?? this.#readText(), lines = this.lineCount;
+    const edits = fewEdits(old, now, lines);
     if (edits.some((edit) => hasLongLine(edit.text))) throw refusal(BadLine);
-    if (countLines(now) > MOST_LINES) throw refusal(TooLarge);
+    if (edits.reduce((sum, { start, stop, text: put }) => sum + countLines(put) - (stop - start), lines) > MOST_LINES) throw refusal(TooLarge);
     const report = this.#makeEdits(edits);
     this.#text = now;
     return report;

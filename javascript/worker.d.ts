@@ -6,7 +6,7 @@ import type { Entry, Fault, Lines, ModuleSource, Report, Text, Title, Token, Wor
 export class WorkerSession {
   private constructor();
   static isSupported(): boolean;
-  /** Starts a worker and opens a session in it. `worker` is one of yours that runs `worker_body.js`. */
+  /** Starts a worker and opens a session in it. `module` is relative to the page; `worker` is one of yours that runs `worker_body.js`. */
   static open(options?: { module?: ModuleSource; worker?: unknown }): Promise<WorkerSession>;
 
   insert(at: number, lines: Lines): Promise<Report>;

@@ -14,6 +14,17 @@ async function startWorker() {
   return new threads.Worker(new URL("./worker_body.js", import.meta.url));
 }
 
+/** What a worker gets of a module: an address in full, since a worker has another place. */
+function sendable(module) {
+  const isAddress = module instanceof URL || typeof module === "string";
+  return isAddress ? new URL(module, globalThis.location?.href).href : module;
+}
+
+/** Calls `end` when a worker that holds a lock is gone, where there are locks: browsers say nothing of a worker that the page ends. */
+function waitForEnd(lock, end) {
+  if (lock) navigator.locks.request(lock, () => end("it ended"));
+}
+
 /** Calls `hear` with each message of a worker, and `end` if the worker fails. */
 function listen(worker, hear, end) {
   if (typeof worker.on === "function") {
@@ -36,7 +47,7 @@ export class WorkerSession {
   /** A session in a worker; `WorkerSession.open` calls it. */
   constructor(worker) {
     this.#worker = worker;
-    listen(worker, (answer) => this.#hear(answer), (why) => this.#finish(new WorkerError(`the worker failed: ${why}`)));
+    listen(worker, (answer) => this.#hear(answer), (why) => this.#fail(why));
   }
 
   static isSupported() {
@@ -45,9 +56,10 @@ export class WorkerSession {
 
   static async open({ module, worker } = {}) {
     if (!isSupported()) throw refusal(NotSupportedError);
-    const session = new WorkerSession(worker ?? (await startWorker()));
+    const session = new WorkerSession(worker ?? (await startWorker())), lock = globalThis.navigator?.locks ? crypto.randomUUID() : null;
     try {
-      await session.#ask("open", [module]);
+      await session.#ask("open", [sendable(module), lock]);
+      waitForEnd(lock, (why) => session.#fail(why));
     } catch (error) {
       await session.close();
       throw error;
@@ -89,6 +101,11 @@ export class WorkerSession {
     this.#asked.delete(id);
     if (error) asked?.reject(errorOf(error));
     else asked?.resolve(value);
+  }
+
+  /** Ends all calls, since the worker takes no more. */
+  #fail(why) {
+    this.#finish(new WorkerError(`the worker failed: ${why}`));
   }
 
   /** Ends all calls by an error, unless they ended before. */

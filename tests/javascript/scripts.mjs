@@ -19,6 +19,9 @@ function edited(old, edits) {
   return now.map((line) => `${line}\n`).join("");
 }
 
+/** The edits that make one text of another, both in bytes. */
+const editsOf = (old, now) => fewEdits(old, now, countLines(old));
+
 /** The name of the error that a call throws. */
 function thrown(call) {
   try {
@@ -37,35 +40,42 @@ await run({
       const now = next(3) ? [...old] : randomLines(next, 14);
       now.splice(next(now.length + 1), next(3), ...randomLines(next, 3));
       const [from, to] = [old, now].map((list) => list.map((line) => `${line}\n`).join(""));
-      same(edited(from, fewEdits(bytes(from), bytes(to))), to);
+      same(edited(from, editsOf(bytes(from), bytes(to))), to);
     }
   },
   "equal texts have no edits": () => {
-    for (const both of ["", "\n", "X:1\nK:C\nCDEF|\n"]) same(fewEdits(bytes(both), bytes(both)), []);
+    for (const both of ["", "\n", "X:1\nK:C\nCDEF|\n"]) same(editsOf(bytes(both), bytes(both)), []);
   },
   "one changed line is one edit of this line": () => {
     const old = "X:1\nK:C\nCDEF|\n\nX:2\nK:C\nGABc|\n";
-    same(fewEdits(bytes(old), bytes(old.replace("GABc", "GABd"))), [{ start: 6, stop: 7, text: bytes("GABd|\n") }]);
-    same(fewEdits(bytes(old), bytes(old.replace("CDEF|\n", ""))), [{ start: 2, stop: 3, text: bytes("") }]);
-    same(fewEdits(bytes(old), bytes(`${old}\n`)), [{ start: 7, stop: 7, text: bytes("\n") }]);
+    same(editsOf(bytes(old), bytes(old.replace("GABc", "GABd"))), [{ start: 6, stop: 7, text: bytes("GABd|\n") }]);
+    same(editsOf(bytes(old), bytes(old.replace("CDEF|\n", ""))), [{ start: 2, stop: 3, text: bytes("") }]);
+    same(editsOf(bytes(old), bytes(`${old}\n`)), [{ start: 7, stop: 7, text: bytes("\n") }]);
   },
   "changes of two tunes are two edits, and those of one tune are one": () => {
     const old = "X:1\nK:C\nCDEF|\nGABc|\n\nX:2\nK:C\ncBAG|\nFEDC|\n";
     const two = old.replace("CDEF", "CDE2").replace("FEDC", "FED2");
-    same(fewEdits(bytes(old), bytes(two)).map(({ start, stop }) => [start, stop]), [[2, 3], [8, 9]]);
+    same(editsOf(bytes(old), bytes(two)).map(({ start, stop }) => [start, stop]), [[2, 3], [8, 9]]);
     const one = old.replace("K:C\nc", "K:D\nc").replace("FEDC", "FED2");
-    same(fewEdits(bytes(old), bytes(one)).map(({ start, stop }) => [start, stop]), [[6, 9]]);
+    same(editsOf(bytes(old), bytes(one)).map(({ start, stop }) => [start, stop]), [[6, 9]]);
+  },
+  "the edits begin at the right line in either half of a text": () => {
+    const old = bytes(Array.from({ length: 100 }, (_, n) => `${n}\n`).join(""));
+    for (const [line, more] of [[3, ""], [3, "x"], [96, ""], [96, "xyzuv"]]) {
+      const now = bytes(text(old).replace(`\n${line}\n`, `\n+${more}\n`));
+      same(editsOf(old, now), [{ start: line, stop: line + 1, text: bytes(`+${more}\n`) }]);
+    }
   },
   "tunes that are moved are few edits": () => {
     const tune = (n) => `X:${n}\nK:C\n${"CDEF|".repeat(n)}\n\n`;
     const order = (...numbers) => bytes(numbers.map(tune).join(""));
-    same(fewEdits(order(1, 2, 3, 4, 5), order(1, 4, 2, 3, 5)).length, 2);
+    same(editsOf(order(1, 2, 3, 4, 5), order(1, 4, 2, 3, 5)).length, 2);
   },
   "far edits of the longest text are two if it has room for both on the way": () => {
     const most = 1048576, removed = "R\n".repeat(100), added = "A\n".repeat(10);
     for (const [room, count] of [[0, 1], [9, 1], [10, 2]]) {
       const middle = `X:1\n${"\n".repeat(most - room - 102)}X:2\n`, old = bytes(removed + middle), now = bytes(middle + added);
-      const edits = fewEdits(old, now);
+      const edits = editsOf(old, now);
       same(edits.length, count);
       if (count === 2) same(edits.map(({ start, stop }) => [start, stop]), [[0, 100], [most - room, most - room]]);
     }
@@ -78,6 +88,9 @@ await run({
     same(thrown(() => bytesOfLines(7)), "TypeError");
     same(text(bytesOfBook("\ufeffA\nB")), "A\nB\n");
     same(text(bytesOfBook(new Uint8Array([0xef, 0xbb, 0xbf, 65]))), "A\n");
+    const mine = bytes("A\n"), book = bytesOfBook(mine);
+    mine[0] = 66;
+    same(text(book), "A\n");
     same(text(bytesOfBook("A\n\ufeffB\n")), "A\n\ufeffB\n");
     same([bytesOfBook("").length, bytesOfBook("\n").length], [0, 1]);
   },
@@ -101,6 +114,10 @@ await run({
     const latin = new Uint8Array([0x61, 0xe9, 0x62]);
     same([1, 2, 3, 4, 5].map((column) => utf16ColumnOf(latin, column)), [1, 2, 3, 4, 4]);
     same([1, 2, 3, 4, 5].map((column) => byteColumnOf(latin, column)), [1, 2, 3, 4, 4]);
+    for (const columnOf of [utf16ColumnOf, byteColumnOf]) {
+      for (const at of [line, latin, bytes("")]) same([0, -1, -7].map((column) => columnOf(at, column)), [1, 1, 1]);
+      for (const wrong of [1.5, NaN, "1", undefined]) same(thrown(() => columnOf(line, wrong)), "TypeError");
+    }
   },
   "errors of a worker have their class again": () => {
     const error = errorOf({ name: "BadRange", message: "why" });

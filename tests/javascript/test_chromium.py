@@ -17,6 +17,26 @@ SLOW_SPANS = ["X:1 NumberField", "L:1/1 OtherField", "Q:1/4=4 OtherField", "K:C 
 # On a machine without a loudspeaker the clock of sound does not run. This one goes on whenever it is read, as it may between any two looks.
 CLOCK = "let clock = 0; Object.defineProperty(AudioContext.prototype, 'currentTime', { get: () => (clock += 0.06) });"
 SPANS = "return [...document.querySelectorAll('#colours span')].map((one) => `${one.textContent} ${one.className}`);"
+ENDED = """
+const { WorkerSession } = await import("/package/worker.js");
+const worker = new Worker("/package/worker_body.js", { type: "module" });
+const session = await WorkerSession.open({ worker });
+worker.terminate();
+return session.setText(book).then(() => "an answer", ({ name, message }) => `${name}: ${message}`);
+"""
+MODULES = """
+const { WorkerSession } = await import("/package/worker.js");
+const modules = [new URL("/package/abc2midi_live.wasm", location.href), "package/abc2midi_live.wasm"];
+return Promise.all(modules.map(async (module) => {
+  const session = await WorkerSession.open({ module });
+  await session.setText(book);
+  return session.numbers;
+}));
+"""
+FORBIDDEN = """
+import { Engine } from "/package/index.js";
+Engine.load().catch(({ name, message }) => { document.title = `${name}: ${message}`; });
+"""
 MEMORY = """
 const { Engine, Session } = await import("/package/index.js");
 const engine = await Engine.load();
@@ -122,6 +142,21 @@ class InChromium(common.Room):
         self.driver.execute_script(CLOCK)
         play.click()
         browser.wait(lambda: "C Note now" in self.driver.execute_script(SPANS))
+
+    def test_the_calls_of_a_worker_that_the_page_ends_are_rejected(self) -> None:
+        self.assertEqual(self.value_of(ENDED, "X:1\nK:C\nC\n"), "WorkerError: the worker failed: it ended")
+
+    def test_the_address_of_a_module_for_a_worker_is_that_of_the_page(self) -> None:
+        """As a `URL`, and as a string that is relative to the page and not to the worker."""
+        self.assertEqual(self.value_of(MODULES, "X:1\nK:C\nC\n"), [[1], [1]])
+
+    def test_a_policy_that_forbids_modules_is_named(self) -> None:
+        policy = "<meta http-equiv='Content-Security-Policy' content=\"script-src 'self'\">"
+        (self.folder / "forbidden.js").write_text(FORBIDDEN)
+        (self.folder / "forbidden.html").write_text(f"<!doctype html>{policy}<script type='module' src='forbidden.js'></script>")
+        self.driver.get(f"{self.address}/forbidden.html")
+        browser.wait(lambda: self.driver.title)
+        self.assertRegex(self.driver.title, "^NotSupportedError: the policy of this page forbids WebAssembly: allow 'wasm-unsafe-eval'")
 
     def test_nothing_is_written_to_the_console(self) -> None:
         self.value_of('const { Session } = await import("/package/index.js"); (await Session.open()).setText(book);', "X:1\nK:C\nC\n")
