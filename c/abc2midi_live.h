@@ -124,7 +124,7 @@ typedef struct abc_live_entry {
     uint8_t kind;     /* One of ABC_LIVE_ENTRY_.. */
     uint8_t key;      /* The key of a tone in MIDI, 0 to 127; else 128, ABC_LIVE_NO_KEY. */
     uint8_t velocity; /* The velocity of a tone with a key, else 0. */
-    uint8_t joined;   /* 1 for a tone that a tie joins with one before it, so the file has no note-on for it; else 0. */
+    uint8_t ties;     /* Of a tone the sum of ABC_LIVE_JOINED and ABC_LIVE_TIED, each if it holds; else 0. */
 } abc_live_entry;
 
 /* The kinds of entries. A kind keeps its number within 1.x; new ones come at the end. */
@@ -136,6 +136,12 @@ enum {
 
 /* The key of a rest, a bar line and a silent tone. */
 #define ABC_LIVE_NO_KEY 128
+
+/* The bits of `ties`. A bit keeps its meaning within 1.x; new ones come after these. */
+enum {
+    ABC_LIVE_JOINED = 1, /* A tie joins the tone with one before it, so the file has no note-on for it. */
+    ABC_LIVE_TIED = 2    /* A tie follows the tone, and it has a key. */
+};
 
 /*
  * The codes that calls return. A refused edit returns the first of 2 to 5 that applies. Only `abc_live_open`, edits,

@@ -97,6 +97,8 @@ export interface Entry {
   velocity: number | null;
   /** Whether a tie joins a tone with one before it. */
   joined: boolean;
+  /** Whether a tie follows a tone and it has a key. */
+  tied: boolean;
   /** Its line, counted from 1. */
   line: number;
   /** The column of its first byte, counted from 1. */

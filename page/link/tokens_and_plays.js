@@ -50,6 +50,7 @@ export const ENTRY_KINDS = /** @type {const} */ (["Other", "Note", "Rest", "Bar"
 const TOKEN_SIZE = 4, ENTRY_SIZE = 9; // numbers
 const LINE = 2; // the place of the line among those of an entry
 export const NO_KEY = 128; // of an entry without a sound
+export const JOINED = 1, TIED = 2; // bits of the ties of an entry
 const MOST = 20_000; // lines of which the tokens are remembered
 const NEAR = 30; // lines after an edit: as many as most windows show there
 const REST = 300; // milliseconds without an edit
@@ -283,10 +284,10 @@ function entriesOf(numbers, places, lines) {
   const moves = new Map([...places].map(([was, { text, line }]) => [was, text === lines[line] ? null : columnsMove(text, lines[line] ?? "")]));
   const entries = [];
   for (let at = 0; at < numbers.length; at += ENTRY_SIZE) {
-    const [on, off, was, from, to, kind, key, velocity, joined] = numbers.slice(at, at + ENTRY_SIZE);
+    const [on, off, was, from, to, kind, key, velocity, ties] = numbers.slice(at, at + ENTRY_SIZE);
     const sound = key === NO_KEY ? { key: null, velocity: null } : { key, velocity };
     const place = moves.get(was)?.({ from, to }) ?? { from, to };
-    entries.push({ on, off, line: places.get(was)?.line ?? -1, ...place, kind: ENTRY_KINDS[kind] ?? ENTRY_KINDS[0], ...sound, joined: joined === 1 });
+    entries.push({ on, off, line: places.get(was)?.line ?? -1, ...place, kind: ENTRY_KINDS[kind] ?? ENTRY_KINDS[0], ...sound, joined: (ties & JOINED) !== 0 });
   }
   return entries;
 }

@@ -1,7 +1,7 @@
 // A text of any kind in a session of the compiler. Lines that the session would refuse are comments there, and faults here.
 
 import { WorkerSession } from "../abc2midi-live/worker.js";
-import { ENTRY_KINDS, KINDS, NO_KEY } from "../link/tokens_and_plays.js";
+import { ENTRY_KINDS, JOINED, KINDS, NO_KEY, TIED } from "../link/tokens_and_plays.js";
 import { difference } from "../text/line_edits.js";
 import { bytesOf } from "./book_text.js";
 import { BookTunes } from "./book_tunes.js";
@@ -154,6 +154,6 @@ export class CompiledBook {
 
 /** The numbers of an entry.
  * @type {(entry: Entry) => number[]} */
-function numbersOf({ on, off, line, utf16From, utf16To, kind, key, velocity, joined }) {
-  return [on, off, line - 1, utf16From - 1, utf16To - 1, ENTRY_KINDS.indexOf(kind), key ?? NO_KEY, velocity ?? 0, Number(joined)];
+function numbersOf({ on, off, line, utf16From, utf16To, kind, key, velocity, joined, tied }) {
+  return [on, off, line - 1, utf16From - 1, utf16To - 1, ENTRY_KINDS.indexOf(kind), key ?? NO_KEY, velocity ?? 0, (joined ? JOINED : 0) + (tied ? TIED : 0)];
 }

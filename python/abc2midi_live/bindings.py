@@ -10,6 +10,7 @@ from .errors import LibraryMissing
 
 OK, MISUSED, BAD_RANGE, BAD_LINE, TOO_LARGE, OUT_OF_MEMORY, NOT_FOUND, SHORT_BUFFER, TOO_LONG = range(9)  # what calls return
 NO_KEY = 128  # of an entry of a play
+JOINED, TIED = 1, 2  # bits of the ties of an entry of a play
 
 
 class CSession(ctypes.Structure):
@@ -48,7 +49,7 @@ class CEntry(ctypes.Structure):
         ("kind", c_uint8),
         ("key", c_uint8),
         ("velocity", c_uint8),
-        ("joined", c_uint8),
+        ("ties", c_uint8),
     ]
 
 

@@ -17,8 +17,9 @@ class EntryKind(Enum):
 
 class Entry(NamedTuple):
     """A tone, a rest or a bar line that is played. `on` and `off` are ticks from the beginning of the tune, 480 a quarter note. `key`
-    and `velocity` are None for a silent tone, a rest and a bar line. `joined` is whether a tie joins a tone with one before it. The
-    place in the text is a line, and the columns of the first byte and after the last one, all counted from 1, columns in bytes."""
+    and `velocity` are None for a silent tone, a rest and a bar line. `joined` is whether a tie joins a tone with one before it,
+    `tied` whether a tie follows it and it has a key. The place in the text is a line, and the columns of the first byte and after the
+    last one, all counted from 1, columns in bytes."""
 
     on: int
     off: int
@@ -26,6 +27,7 @@ class Entry(NamedTuple):
     key: Optional[int]
     velocity: Optional[int]
     joined: bool
+    tied: bool
     line: int
     from_column: int
     to_column: int

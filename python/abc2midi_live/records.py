@@ -11,7 +11,7 @@ from itertools import chain
 from struct import Struct
 from typing import NamedTuple
 
-from .bindings import NO_KEY
+from .bindings import JOINED, NO_KEY, TIED
 from .plays import Entry, entry_kind_of
 from .tokens import Token, kind_of
 
@@ -60,7 +60,7 @@ class PlayColumns:
         return self.words[4 * index + 1]
 
     def numbers(self) -> list[int]:
-        """The nine fields of each entry in the order of the C library's struct: on, off, line, from, to, kind, key, velocity, joined."""
+        """The nine fields of each entry in the order of the C library's struct: on, off, line, from, to, kind, key, velocity, ties."""
         return list(chain.from_iterable(ENTRY.iter_unpack(self.copied)))
 
     def entry(self, index: int) -> Entry:
@@ -92,7 +92,8 @@ def entries_in(copied: memoryview) -> Iterator[Entry]:
 
 def entry_of(fields: tuple[int, ...]) -> Entry:
     """An entry, by the fields of its struct."""
-    on, off, line, start, end, kind, key, velocity, joined = fields
+    on, off, line, start, end, kind, key, velocity, ties = fields
+    joined, tied = bool(ties & JOINED), bool(ties & TIED)
     if key == NO_KEY:
-        return Entry(on, off, entry_kind_of(kind), None, None, joined == 1, line, start, end)
-    return Entry(on, off, entry_kind_of(kind), key, velocity, joined == 1, line, start, end)
+        return Entry(on, off, entry_kind_of(kind), None, None, joined, tied, line, start, end)
+    return Entry(on, off, entry_kind_of(kind), key, velocity, joined, tied, line, start, end)

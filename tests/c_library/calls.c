@@ -65,7 +65,7 @@ static void refuse_all(abc_live_session *session)
     count = 5;
     CHECK(abc_live_tracks(session, 1, sizes, 1, &count) == ABC_LIVE_MISUSED && count == 0 && sizes[0] == 6);
     count = 5;
-    CHECK(abc_live_play(session, 1, &entry, 1, &count) == ABC_LIVE_MISUSED && count == 0 && entry.on == 1 && entry.joined == 9);
+    CHECK(abc_live_play(session, 1, &entry, 1, &count) == ABC_LIVE_MISUSED && count == 0 && entry.on == 1 && entry.ties == 9);
     CHECK(numbers[0] == 1 && numbers[1] == 2 && bytes[0] == 3 && bytes[1] == 4 && fault.line == 1 && fault.code == 3);
     CHECK(abc_live_close(session) == ABC_LIVE_MISUSED);
 }
@@ -222,10 +222,10 @@ static void play_tunes(void)
     static const char book[] = "X:1\nK:C\nV:1\n[CE]-|C z|\nV:2\n|:C,,,,,,,,:|\n\nX:1\nK:C\nD\n";
     static const size_t sizes[] = {0, 6, 5};
     static const abc_live_entry entries[] = {
-        {0, 240, 4, 2, 3, ABC_LIVE_ENTRY_NOTE, 60, 80, 0},
-        {0, 240, 4, 3, 4, ABC_LIVE_ENTRY_NOTE, 64, 80, 0},
+        {0, 240, 4, 2, 3, ABC_LIVE_ENTRY_NOTE, 60, 80, ABC_LIVE_TIED},
+        {0, 240, 4, 3, 4, ABC_LIVE_ENTRY_NOTE, 64, 80, ABC_LIVE_TIED},
         {240, 240, 4, 6, 7, ABC_LIVE_ENTRY_BAR, ABC_LIVE_NO_KEY, 0, 0},
-        {240, 480, 4, 7, 8, ABC_LIVE_ENTRY_NOTE, 60, 80, 1},
+        {240, 480, 4, 7, 8, ABC_LIVE_ENTRY_NOTE, 60, 80, ABC_LIVE_JOINED},
         {480, 720, 4, 9, 10, ABC_LIVE_ENTRY_REST, ABC_LIVE_NO_KEY, 0, 0},
         {720, 720, 4, 10, 11, ABC_LIVE_ENTRY_BAR, ABC_LIVE_NO_KEY, 0, 0},
         {0, 0, 6, 1, 3, ABC_LIVE_ENTRY_BAR, ABC_LIVE_NO_KEY, 0, 0},
@@ -245,7 +245,7 @@ static void play_tunes(void)
     CHECK(memcmp(&work, &before, sizeof work) == 0);
     CHECK(abc_live_tracks(&session, 2, &size, 1, &count) == ABC_LIVE_NOT_FOUND && count == 0 && size == 9);
     count = 9;
-    CHECK(abc_live_play(&session, 2, &entry, 1, &count) == ABC_LIVE_NOT_FOUND && count == 0 && entry.on == 1 && entry.joined == 9);
+    CHECK(abc_live_play(&session, 2, &entry, 1, &count) == ABC_LIVE_NOT_FOUND && count == 0 && entry.on == 1 && entry.ties == 9);
     CHECK(abc_live_delete(&session, 1, 7, &work) == ABC_LIVE_OK && plays(&session, 1, second_sizes, 2, second));
     CHECK(abc_live_delete(&session, 3, 3, &work) == ABC_LIVE_OK);
     CHECK(abc_live_tracks(&session, 1, NULL, 0, &count) == ABC_LIVE_SHORT_BUFFER && count == 1);

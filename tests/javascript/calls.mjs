@@ -159,13 +159,14 @@ await run({
   },
   "plays have ticks, and places with columns in bytes and in UTF-16 units": async () => {
     const session = await sessionOf('X:1\nK:C\nV:1\n"\u00e9"[CE]-|C z|\nV:2\n|:C,,,,,,,,:|\n');
-    const entry = (on, off, kind, key, joined, line, from, to, back = 0) => {
+    const entry = (on, off, kind, key, [joined, tied], line, from, to, back = 0) => {
       const columns = { line, from, to, utf16From: from - back, utf16To: to - back };
-      return { on, off, kind, key, velocity: key === null ? null : 80, joined, ...columns };
+      return { on, off, kind, key, velocity: key === null ? null : 80, joined, tied, ...columns };
     };
-    const silent = (on) => entry(on, on + 240, "Note", null, false, 6, 3, 12), bar = (at, ...place) => entry(at, at, "Bar", null, false, ...place);
-    const first = [entry(0, 240, "Note", 60, false, 4, 6, 7, 1), entry(0, 240, "Note", 64, false, 4, 7, 8, 1), bar(240, 4, 10, 11, 1),
-      entry(240, 480, "Note", 60, true, 4, 11, 12, 1), entry(480, 720, "Rest", null, false, 4, 13, 14, 1), bar(720, 4, 14, 15, 1)];
+    const NONE = [false, false], JOINED = [true, false], TIED = [false, true];
+    const silent = (on) => entry(on, on + 240, "Note", null, NONE, 6, 3, 12), bar = (at, ...place) => entry(at, at, "Bar", null, NONE, ...place);
+    const first = [entry(0, 240, "Note", 60, TIED, 4, 6, 7, 1), entry(0, 240, "Note", 64, TIED, 4, 7, 8, 1), bar(240, 4, 10, 11, 1),
+      entry(240, 480, "Note", 60, JOINED, 4, 11, 12, 1), entry(480, 720, "Rest", null, NONE, 4, 13, 14, 1), bar(720, 4, 14, 15, 1)];
     same(session.play(1), [[], first, [bar(0, 6, 1, 3), silent(0), bar(240, 6, 12, 14), silent(240), bar(480, 6, 12, 14)]]);
     same([0, 2, -1, 2 ** 32 + 1].map((number) => session.play(number)), [null, null, null, null]);
     same(await thrown(() => session.play("1")), "TypeError");
@@ -188,6 +189,13 @@ await run({
     const sounds = keys.map((key) => entryAt(view, key, () => [])).map(({ kind, key, velocity }) => ({ kind, key, velocity }));
     const wanted = keys.map((key) => (key < 128 ? { kind: "Note", key, velocity: 127 - key } : { kind: "Note", key: null, velocity: null }));
     same(sounds, wanted);
+  },
+  "the ties of an entry are bits": async () => {
+    const { ENTRY_SIZE, entryAt } = await load("plays.js");
+    const view = new DataView(new ArrayBuffer(4 * ENTRY_SIZE));
+    for (const ties of [0, 1, 2, 3]) view.setUint8(ties * ENTRY_SIZE + 31, ties); // by the header
+    const found = [0, 1, 2, 3].map((ties) => entryAt(view, ties, () => [])).map(({ joined, tied }) => [joined, tied]);
+    same(found, [[false, false], [true, false], [false, true], [true, true]]);
   },
   "an entry has the columns of the line after an edit": async () => {
     const session = await sessionOf('X:1\nK:C\n"\u00e9"C\n');

@@ -14,7 +14,7 @@ async function edit(session: Session): Promise<void> {
   const tokens: Token[] = session.tokens(1);
   const kinds: TokenKind[] = tokens.filter((token) => token.from < token.to && token.utf16From < token.utf16To && !token.depth).map((token) => token.kind);
   const play: Entry[][] | null = session.play(numbers[0] ?? 1);
-  const keys: (number | null)[] = (play ?? []).flat().map((entry) => (entry.on < entry.off && !entry.joined ? entry.key : entry.velocity));
+  const keys: (number | null)[] = (play ?? []).flat().map((entry) => (entry.on < entry.off && !entry.joined && !entry.tied ? entry.key : entry.velocity));
   const entries: EntryKind[] = (play ?? []).flat().map((entry) => entry.kind);
   const titles: Title[] = [...session.titles, ...session.titlesIn(0, 1)];
   const bytes: Uint8Array[] = [...titles.map((title) => title.bytes), session.lineBytes(1)];

@@ -28,13 +28,13 @@ FIELDS = {"void *": c_void_p, "uint8_t ": c_uint8, "uint32_t ": c_uint32, "uint6
 
 
 class Entries(unittest.TestCase):
-    def test_a_silent_tone_that_is_joined(self) -> None:
-        """It has no key and no velocity, and all else that other tones have."""
+    def test_ties_of_silent_and_other_tones(self) -> None:
+        """A silent tone has no key and no velocity, and all else that other tones have."""
         kind = EntryKind.NOTE
         for key, velocity, sound in ((bindings.NO_KEY, 0, (None, None)), (60, 80, (60, 80))):
-            for joined in (0, 1):
-                found = entry_of((480, 960, 3, 2, 4, kind.value, key, velocity, joined))
-                self.assertEqual(tuple(found), (480, 960, kind, *sound, joined == 1, 3, 2, 4))
+            for ties, flags in ((0, (False, False)), (1, (True, False)), (2, (False, True)), (3, (True, True))):
+                found = entry_of((480, 960, 3, 2, 4, kind.value, key, velocity, ties))
+                self.assertEqual(tuple(found), (480, 960, kind, *sound, *flags, 3, 2, 4))
 
 
 class Versions(unittest.TestCase):
@@ -71,6 +71,7 @@ class Header(unittest.TestCase):
         for word, kinds in ("TOKEN_", TokenKind), ("ENTRY_", EntryKind):
             found = {name[len(word) :]: numbers.pop(name) for name in [*numbers] if name.startswith(word)}
             self.assertEqual(found, {kind.name: kind.value for kind in kinds if kind.value})
+        self.assertEqual([numbers.pop(name) for name in ("JOINED", "TIED")], [bindings.JOINED, bindings.TIED])
         self.assertEqual(numbers, {name: getattr(bindings, name) for name in numbers})
         self.assertEqual(sorted(numbers.values()), list(range(9)))
         self.assertIn(f"#define ABC_LIVE_NO_KEY {bindings.NO_KEY}\n", self.header)

@@ -20,7 +20,7 @@ TOKENS = {EntryKind.NOTE: {TokenKind.NOTE}, EntryKind.REST: {TokenKind.REST, Tok
 def row_of(entry: Entry) -> str:
     """An entry as a row of numbers and words: None is `-`."""
     sound = ["-" if value is None else str(value) for value in (entry.key, entry.velocity)]
-    words = [entry.on, entry.off, entry.kind.name.lower(), *sound, int(entry.joined), entry.line, entry.from_column, entry.to_column]
+    words = [entry.on, entry.off, entry.kind.name.lower(), *sound, int(entry.joined), int(entry.tied), entry.line, entry.from_column, entry.to_column]
     return " ".join(map(str, words))
 
 
@@ -38,8 +38,8 @@ def rows_of(session: Session, number: int) -> list[str]:
 
 def numbers_of(entry: Entry) -> tuple[int, ...]:
     """The fields of an entry as numbers, as the C library has them. An entry that does not sound has key 128 and velocity 0."""
-    on, off, kind, key, velocity, joined, line, start, end = entry
-    return on, off, line, start, end, kind.value, 128 if key is None else key, velocity or 0, int(joined)
+    on, off, kind, key, velocity, joined, tied, line, start, end = entry
+    return on, off, line, start, end, kind.value, 128 if key is None else key, velocity or 0, joined + 2 * tied
 
 
 class OverTheLibrary(sessions.Sessions):
@@ -191,7 +191,7 @@ class OverTheLibrary(sessions.Sessions):
             session.play("1")  # type: ignore[arg-type]
         play = session.play(1)
         assert play
-        self.assertEqual(play, ((), (Entry(0, 240, EntryKind.NOTE, 60, 80, False, 4, 1, 2),)))
+        self.assertEqual(play, ((), (Entry(0, 240, EntryKind.NOTE, 60, 80, False, False, 4, 1, 2),)))
         with self.assertRaises(AttributeError):
             play[1][0].on = 1  # type: ignore[misc]
 

@@ -48,7 +48,7 @@ next_in (first ∷ past) x rest = next_in past x rest
 
 -- an entry of this kind is one of this item
 abbrev pub FitsItem : EntryKind → Item → Type 0
-FitsItem (kinds.Note tone key velocity joined) (items.Tone tones time) = (one : Tone) × (slice_get tones tone ≡ Some one) × (one.key ≡ key)
+FitsItem (kinds.Note tone key velocity joined tied) (items.Tone tones time) = (one : Tone) × (slice_get tones tone ≡ Some one) × (one.key ≡ key)
 FitsItem kinds.Rest (items.Rest time bar) = ⊤
 FitsItem kinds.Bar (items.Bar line) = ⊤
 FitsItem _ _ = ⊥

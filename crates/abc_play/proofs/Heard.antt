@@ -148,9 +148,9 @@ module _ (place : CellPlace) (start : CellResult) (is : start.body ≡ body-at p
 
 -- the key of an entry of such an item
 pub key_here : (place : CellPlace) (kind : TokenKind) (entry : EntryKind) (item : Item) → FitsItem entry item → SoundsAt (keys_of place kind) item → HasKey place kind entry
-key_here place kind (kinds.Note tone key velocity joined) (items.Tone tones lasting) fits sounds =
+key_here place kind (kinds.Note tone key velocity joined tied) (items.Tone tones lasting) fits sounds =
     ap (λ keys. slice_get keys tone) (sym sounds) ∙ slice_get-map (λ (one : Tone). one.key) tones tone
     ∙ ap (option_map (λ (one : Tone). one.key)) fits.1 ∙ ap Some fits.2
 key_here place kind kinds.Rest item fits sounds = tt
 key_here place kind kinds.Bar item fits sounds = tt
-key_here place kind (kinds.Note tone key velocity joined) _ fits sounds = absurd sounds
+key_here place kind (kinds.Note tone key velocity joined tied) _ fits sounds = absurd sounds

@@ -102,26 +102,26 @@ module _ (line at : ℕ) (parts : List (Spanned ChordPartKind)) where
         here = ap (λ (o : Option (Spanned ChordPartKind)). slice_get (cons_option (option_map (part_place line at) o) rest) (suc tone)) is.here ∙ later.here;
       }
 
-note_gives : (tone : ℕ) (key : Option ℕ) (velocity : ℕ) (joined : Bool) (kind : ChordPartKind) → is_note_part kind ≡ true → GivesTone (kinds.Note tone key velocity joined) kind
-note_gives tone key velocity joined (pieces.Note note) noted = tt
-note_gives tone key velocity joined _ noted = absurd (false≢true noted)
+note_gives : (tone : ℕ) (key : Option ℕ) (velocity : ℕ) (joined tied : Bool) (kind : ChordPartKind) → is_note_part kind ≡ true → GivesTone (kinds.Note tone key velocity joined tied) kind
+note_gives tone key velocity joined tied (pieces.Note note) noted = tt
+note_gives tone key velocity joined tied _ noted = absurd (false≢true noted)
 
 -- an entry of an item that a token gives: of a chord, a note, a rest, rests of bars and a bar line
 chord_entry : (line at : ℕ) (chord : Chord) (place : Place) (kind : EntryKind) (item : Item) → FitsItem kind item → GivesItem (tokens.Chord chord) item
     → place ≡ place_among (chord_places line at chord.parts) (tone_of kind)
     → (part : Spanned ChordPartKind) × (part_of_tone chord.parts (tone_of kind) ≡ Some part) × GivesTone kind part.kind × (place ≡ part_place line at part)
-chord_entry line at chord place (kinds.Note tone key velocity joined) (items.Tone tones time) fits gives is =
+chord_entry line at chord place (kinds.Note tone key velocity joined tied) (items.Tone tones time) fits gives is =
     let parts = chord.parts in
     let within = slice_get_within tones tone fits.0 fits.1 in
     let own = found_part line at parts (tone_parts 0 0 parts) tone (notes_from line at parts 0 0 parts refl) (omega (arith, within, gives)) in
-    (own.part, own.inside, note_gives tone key velocity joined own.part.kind own.noted, is ∙ ap (λ (o : Option Place). unwrap_or o no_place) own.here)
+    (own.part, own.inside, note_gives tone key velocity joined tied own.part.kind own.noted, is ∙ ap (λ (o : Option Place). unwrap_or o no_place) own.here)
 chord_entry line at chord place kinds.Rest (items.Rest time bar) fits gives is = absurd gives
 chord_entry line at chord place kinds.Bar (items.Bar bar) fits gives is = absurd gives
 chord_entry line at chord place _ _ fits gives is = absurd fits
 
 note_entry : (own place : Place) (note : Note) (kind : EntryKind) (item : Item) → FitsItem kind item → GivesItem (tokens.Note note) item
     → place ≡ place_among (own ∷ []) (tone_of kind) → Gives kind (tokens.Note note) × (place ≡ own)
-note_entry own place note (kinds.Note tone key velocity joined) (items.Tone tones time) fits gives is =
+note_entry own place note (kinds.Note tone key velocity joined tied) (items.Tone tones time) fits gives is =
     let within = slice_get_within tones tone fits.0 fits.1 in
     let first : tone ≡ 0 = omega (arith, within, gives) in
     (tt, is ∙ ap (place_among (own ∷ [])) first)
@@ -131,21 +131,21 @@ note_entry own place note _ _ fits gives is = absurd fits
 
 rest_entry : (own place : Place) (written : WrittenLength) (kind : EntryKind) (item : Item) → FitsItem kind item → GivesItem (tokens.Rest written) item
     → place ≡ place_among (own ∷ []) (tone_of kind) → Gives kind (tokens.Rest written) × (place ≡ own)
-rest_entry own place written (kinds.Note tone key velocity joined) (items.Tone tones time) fits gives is = absurd gives
+rest_entry own place written (kinds.Note tone key velocity joined tied) (items.Tone tones time) fits gives is = absurd gives
 rest_entry own place written kinds.Rest (items.Rest time bar) fits gives is = (tt, is)
 rest_entry own place written kinds.Bar (items.Bar bar) fits gives is = absurd gives
 rest_entry own place written _ _ fits gives is = absurd fits
 
 bar_rest_entry : (own place : Place) (bars : Option ℕ) (kind : EntryKind) (item : Item) → FitsItem kind item → GivesItem (tokens.BarRest bars) item
     → place ≡ place_among (own ∷ []) (tone_of kind) → Gives kind (tokens.BarRest bars) × (place ≡ own)
-bar_rest_entry own place bars (kinds.Note tone key velocity joined) (items.Tone tones time) fits gives is = absurd gives
+bar_rest_entry own place bars (kinds.Note tone key velocity joined tied) (items.Tone tones time) fits gives is = absurd gives
 bar_rest_entry own place bars kinds.Rest (items.Rest time bar) fits gives is = (tt, is)
 bar_rest_entry own place bars kinds.Bar (items.Bar bar) fits gives is = absurd gives
 bar_rest_entry own place bars _ _ fits gives is = absurd fits
 
 bar_entry : (own place : Place) (line : BarLine) (kind : EntryKind) (item : Item) → FitsItem kind item → GivesItem (tokens.Bar line) item
     → place ≡ place_among (own ∷ []) (tone_of kind) → Gives kind (tokens.Bar line) × (place ≡ own)
-bar_entry own place line (kinds.Note tone key velocity joined) (items.Tone tones time) fits gives is = absurd gives
+bar_entry own place line (kinds.Note tone key velocity joined tied) (items.Tone tones time) fits gives is = absurd gives
 bar_entry own place line kinds.Rest (items.Rest time bar) fits gives is = absurd gives
 bar_entry own place line kinds.Bar (items.Bar bar) fits gives is = (tt, is)
 bar_entry own place line _ _ fits gives is = absurd fits
@@ -174,7 +174,7 @@ of_token line entry token (tokens.Chord chord) item fits gives is =
 of_token line entry token _ item fits gives is = absurd gives
 
 fits_placed : (kind : EntryKind) (item : Item) → FitsItem kind item → has_place item ≡ true
-fits_placed (kinds.Note tone key velocity joined) (items.Tone tones time) fits = refl
+fits_placed (kinds.Note tone key velocity joined tied) (items.Tone tones time) fits = refl
 fits_placed kinds.Rest (items.Rest time bar) fits = refl
 fits_placed kinds.Bar (items.Bar line) fits = refl
 fits_placed _ _ fits = absurd fits
@@ -187,16 +187,16 @@ referred_items (item ∷ own) = ap (λ l. item ∷ l) (referred_items own)
 heard_at : (place : CellPlace) (kind : TokenKind) (entry : EntryKind) (item : Item) → FitsItem entry item → GivesItem kind item → Heard place kind item → HasKey place kind entry
 heard_at place (tokens.Note note) entry item fits gives heard = key_here place (tokens.Note note) entry item fits heard
 heard_at place (tokens.Chord chord) entry item fits gives heard = key_here place (tokens.Chord chord) entry item fits heard
-heard_at place (tokens.Rest written) (kinds.Note tone key velocity joined) (items.Tone tones time) fits gives heard = absurd gives
-heard_at place (tokens.Rest written) (kinds.Note tone key velocity joined) _ fits gives heard = absurd fits
+heard_at place (tokens.Rest written) (kinds.Note tone key velocity joined tied) (items.Tone tones time) fits gives heard = absurd gives
+heard_at place (tokens.Rest written) (kinds.Note tone key velocity joined tied) _ fits gives heard = absurd fits
 heard_at place (tokens.Rest written) kinds.Rest item fits gives heard = tt
 heard_at place (tokens.Rest written) kinds.Bar item fits gives heard = tt
-heard_at place (tokens.BarRest bars) (kinds.Note tone key velocity joined) (items.Tone tones time) fits gives heard = absurd gives
-heard_at place (tokens.BarRest bars) (kinds.Note tone key velocity joined) _ fits gives heard = absurd fits
+heard_at place (tokens.BarRest bars) (kinds.Note tone key velocity joined tied) (items.Tone tones time) fits gives heard = absurd gives
+heard_at place (tokens.BarRest bars) (kinds.Note tone key velocity joined tied) _ fits gives heard = absurd fits
 heard_at place (tokens.BarRest bars) kinds.Rest item fits gives heard = tt
 heard_at place (tokens.BarRest bars) kinds.Bar item fits gives heard = tt
-heard_at place (tokens.Bar line) (kinds.Note tone key velocity joined) (items.Tone tones time) fits gives heard = absurd gives
-heard_at place (tokens.Bar line) (kinds.Note tone key velocity joined) _ fits gives heard = absurd fits
+heard_at place (tokens.Bar line) (kinds.Note tone key velocity joined tied) (items.Tone tones time) fits gives heard = absurd gives
+heard_at place (tokens.Bar line) (kinds.Note tone key velocity joined tied) _ fits gives heard = absurd fits
 heard_at place (tokens.Bar line) kinds.Rest item fits gives heard = tt
 heard_at place (tokens.Bar line) kinds.Bar item fits gives heard = tt
 heard_at place _ entry item fits gives heard = absurd gives

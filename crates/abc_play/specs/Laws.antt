@@ -29,7 +29,7 @@ use Rattle.abc_play.specs.declared.entry.PlayedEntry.{PlayedEntry}
 
 -- A token of this kind gives an entry of this kind: a note a tone, a rest a rest, a bar line a bar line.
 abbrev pub Gives : EntryKind → TokenKind → Type 0
-Gives (entries.Note tone key velocity joined) (kinds.Note note) = Unit {0}
+Gives (entries.Note tone key velocity joined tied) (kinds.Note note) = Unit {0}
 Gives entries.Rest (kinds.Rest length) = Unit {0}
 Gives entries.Rest (kinds.BarRest bars) = Unit {0}
 Gives entries.Bar (kinds.Bar line) = Unit {0}
@@ -37,7 +37,7 @@ Gives _ _ = ⊥
 
 -- A part of a chord gives a tone if it is a note.
 abbrev pub GivesTone : EntryKind → ChordPartKind → Type 0
-GivesTone (entries.Note tone key velocity joined) (pieces.Note note) = Unit {0}
+GivesTone (entries.Note tone key velocity joined tied) (pieces.Note note) = Unit {0}
 GivesTone _ _ = ⊥
 
 -- The part of a chord that gives its tone at an index, if there is one.
@@ -92,7 +92,7 @@ keys_of place _ = []
 
 -- An entry that is a tone has the key of that tone.
 abbrev pub HasKey : CellPlace → TokenKind → EntryKind → Type 0
-HasKey place kind (entries.Note tone key velocity joined) = slice_get (keys_of place kind) tone ≡ Some key
+HasKey place kind (entries.Note tone key velocity joined tied) = slice_get (keys_of place kind) tone ≡ Some key
 HasKey place kind _ = Unit {0}
 
 -- The token of an entry in a tune of the text, and the key that looking back gives for it there.

@@ -29,7 +29,7 @@ use Rattle.abc_play.specs.declared.place.Place.{Place}
 
 -- The index of a tone in its note or chord; 0 of a rest or a bar line.
 abbrev pub tone_of : EntryKind → ℕ
-tone_of (kinds.Note tone key velocity joined) = tone
+tone_of (kinds.Note tone key velocity joined tied) = tone
 tone_of _ = 0
 
 -- An entry with its ticks and its place in the text.

@@ -17,7 +17,7 @@ use Rattle.abc_play_sections.specs.declared.step.PlayStep.TheVariants as steps
 use Rattle.abc_play_sections.specs.Step.{as_item}
 use Rattle.abc_time.specs.declared.grains.Grains.{Grains}
 use Rattle.abc_play_tune.specs.declared.entry.EntryKind.TheVariants as kinds
-use Rattle.abc_play_tune.specs.Entries.{end_by, is_joined, tone_entry, tone_entries, item_entries, step_entries, previous_after, entries_back, note_begun}
+use Rattle.abc_play_tune.specs.Entries.{end_by, is_joined, is_tied, tone_entry, tone_entries, item_entries, step_entries, previous_after, entries_back, note_begun}
 use Rattle.abc_play_tune.specs.Laws.{head_of, BeginsNotes}
 use Rattle.abc_play_tune.specs.Play.{play_of_voice, tokens_among}
 use Rattle.abc_play_tune.specs.declared.entry.PlayEntry.{PlayEntry}
@@ -45,12 +45,12 @@ still_same : (past back : List Tone) (tone : Tone) → AreSame past back → Are
 still_same past back tone same key = one_more key past tone ∙ ap (λ n. cond (has_key key tone.key) (suc n) n) (same key)
 
 -- an entry of a tone
-abbrev entry_with : ℕ → Grains → ℕ → ℕ → ℕ → Option ℕ → Bool → PlayEntry
-entry_with at off place index velocity key joined = record { on = record { 0 = at }; off = off; place = place; kind = kinds.Note index key velocity joined }
+abbrev entry_with : ℕ → Grains → ℕ → ℕ → ℕ → Option ℕ → Bool → Bool → PlayEntry
+entry_with at off place index velocity key joined tied = record { on = record { 0 = at }; off = off; place = place; kind = kinds.Note index key velocity joined tied }
 
 -- the note of a tone
 one_begun : (previous : List Tone) (at place : ℕ) (past back : List Tone) (tone : Tone) (tokens : List TimeToken) (key : Option ℕ) → AreSame past back
-    → filter_map note_begun (entry_with at (end_by at tone.length) place (length past) tone.velocity key (is_joined previous past key) ∷ [])
+    → filter_map note_begun (entry_with at (end_by at tone.length) place (length past) tone.velocity key (is_joined previous past key) (is_tied tone) ∷ [])
     ≡ map head_of (chain_note (λ k. tied_with k previous) at back tone tokens key)
 one_begun previous at place past back tone tokens None same = refl
 one_begun previous at place past back tone tokens (Some key) same =
@@ -61,8 +61,8 @@ one_begun previous at place past back tone tokens (Some key) same =
       off = record { 0 = chain_end at tone key (tied_with key back) tokens };
       velocity = tone.velocity;
     } in
-    ap (λ n. filter_map note_begun (entry_with at off place (length past) tone.velocity (Some key) (nat_lt n (tied_with key previous)) ∷ [])) (same key)
-    ∙ elim (nat_lt (tones_with key back) (tied_with key previous)) as (λ b. filter_map note_begun (entry_with at off place (length past) tone.velocity (Some key) b ∷ [])
+    ap (λ n. filter_map note_begun (entry_with at off place (length past) tone.velocity (Some key) (nat_lt n (tied_with key previous)) (is_tied tone) ∷ [])) (same key)
+    ∙ elim (nat_lt (tones_with key back) (tied_with key previous)) as (λ b. filter_map note_begun (entry_with at off place (length past) tone.velocity (Some key) b (is_tied tone) ∷ [])
     ≡ map head_of (cond b [] (note ∷ []))) [
       | true ↦ refl
       | false ↦ refl

@@ -1,5 +1,5 @@
 -- The entries of a play: one for each tone, rest and bar line that is passed. Not in ABC 2.1.
-use Rattle.std.specs.Prelude.{ℕ, ◌+◌, ◌-◌, ◌^◌, min, nat_lt, Bool, false, List, [], ◌∷◌, ◌++◌, length, Option, Some, None}
+use Rattle.std.specs.Prelude.{ℕ, ◌+◌, ◌-◌, ◌^◌, min, nat_lt, Bool, false, ◌&&◌, List, [], ◌∷◌, ◌++◌, length, Option, Some, None, is_some}
 use Rattle.abc_bars_items.specs.declared.item.Item.{Item}
 use Rattle.abc_bars_items.specs.declared.item.Item.TheVariants as items
 use Rattle.abc_bars_items.specs.declared.item.Tone.{Tone}
@@ -24,13 +24,17 @@ abbrev pub is_joined : List Tone → List Tone → Option ℕ → Bool
 is_joined previous past None = false
 is_joined previous past (Some key) = nat_lt (tones_with key past) (tied_with key previous)
 
+-- Whether a tie follows a tone that has a key.
+abbrev pub is_tied : Tone → Bool
+is_tied tone = tone.tied && is_some tone.key
+
 -- The entry of a tone, after the tones `past` of its time token.
 abbrev pub tone_entry : List Tone → ℕ → ℕ → List Tone → Tone → PlayEntry
 tone_entry previous at place past tone = record {
   on = record { 0 = at };
   off = end_by at tone.length;
   place = place;
-  kind = kinds.Note (length past) tone.key tone.velocity (is_joined previous past tone.key);
+  kind = kinds.Note (length past) tone.key tone.velocity (is_joined previous past tone.key) (is_tied tone);
 }
 
 -- The entries of the tones of a time token, after its tones `past`.
@@ -82,17 +86,17 @@ entry_groups previous [] = []
 entry_groups previous (timed ∷ others) =
     step_entries previous timed.at.0 timed.step ∷ entry_groups (previous_after previous (tones_of (as_item timed.step))) others
 
--- The moment, the own end, the key and the velocity of an entry that is a tone.
-abbrev pub tone_played : Grains → Grains → EntryKind → Option (ℕ × Grains × Option ℕ × ℕ)
-tone_played on off (kinds.Note tone key velocity joined) = Some (on.0, off, key, velocity)
+-- The moment, the own end, the key and the velocity of an entry that is a tone, and whether it is tied.
+abbrev pub tone_played : Grains → Grains → EntryKind → Option (ℕ × Grains × Option ℕ × ℕ × Bool)
+tone_played on off (kinds.Note tone key velocity joined tied) = Some (on.0, off, key, velocity, tied)
 tone_played on off _ = None
 
-abbrev pub played_by : PlayEntry → Option (ℕ × Grains × Option ℕ × ℕ)
+abbrev pub played_by : PlayEntry → Option (ℕ × Grains × Option ℕ × ℕ × Bool)
 played_by entry = tone_played entry.on entry.off entry.kind
 
 -- The note that begins with an entry: its moment, key and velocity. None for a tone that is silent or joined, a rest or a bar line.
 abbrev pub begun_by : ℕ → EntryKind → Option (ℕ × ℕ × ℕ)
-begun_by at (kinds.Note tone (Some key) velocity false) = Some (at, key, velocity)
+begun_by at (kinds.Note tone (Some key) velocity false tied) = Some (at, key, velocity)
 begun_by at _ = None
 
 abbrev pub note_begun : PlayEntry → Option (ℕ × ℕ × ℕ)

@@ -1,7 +1,7 @@
 -- The play of a tune is its score.
 use Rattle.std.specs.Borrow.{Bor}
 use Rattle.std.specs.List.{flat_map}
-use Rattle.std.specs.Prelude.{◌≡◌, ℕ, List, [], map, filter_map, reverse, Option}
+use Rattle.std.specs.Prelude.{◌≡◌, ℕ, Bool, List, [], map, filter_map, reverse, Option}
 use Rattle.abc_bars_items.specs.declared.item.Item.{Item}
 use Rattle.abc_bars_items.specs.declared.item.Tone.{Tone}
 use Rattle.abc_time.specs.declared.grains.Grains.{Grains}
@@ -11,7 +11,7 @@ use Rattle.abc_voices.specs.Ties.{TimeToken, heard_notes, tokens_in}
 use Rattle.abc_voices.specs.Track.{tracks, voice_names}
 use Rattle.abc_voices_score.specs.declared.score.Sounding.{Sounding}
 use Rattle.abc_voices_sections.specs.Items.{items_of}
-use Rattle.abc_play_tune.specs.Entries.{end_by, entries_back, entries_from, entry_groups, note_begun, played_by}
+use Rattle.abc_play_tune.specs.Entries.{end_by, entries_back, entries_from, entry_groups, is_tied, note_begun, played_by}
 use Rattle.abc_play_tune.specs.Play.{played_sections, play_of_voice, tokens_among}
 use Rattle.abc_play_tune.specs.Steps.{without_places}
 use Rattle.abc_play_tune.specs.declared.timed.TimedStep.{TimedStep}
@@ -46,15 +46,15 @@ GroupsEntries =
     (timed : List TimedStep) → (entries_from [] timed ≡ flat_map (λ group. group) (entry_groups [] timed))
     × (entries_back [] timed ≡ flat_map (λ group. group) (reverse (entry_groups [] timed)))
 
--- The moment, the own end, the key and the velocity of each tone of a time token.
-abbrev pub tone_of_token : ℕ → Tone → ℕ × Grains × Option ℕ × ℕ
-tone_of_token at tone = (at, end_by at tone.length, tone.key, tone.velocity)
+-- The moment, the own end, the key and the velocity of each tone of a time token, and whether it is tied.
+abbrev pub tone_of_token : ℕ → Tone → ℕ × Grains × Option ℕ × ℕ × Bool
+tone_of_token at tone = (at, end_by at tone.length, tone.key, tone.velocity, is_tied tone)
 
-abbrev pub tones_of_token : TimeToken → List (ℕ × Grains × Option ℕ × ℕ)
+abbrev pub tones_of_token : TimeToken → List (ℕ × Grains × Option ℕ × ℕ × Bool)
 tones_of_token token = map (tone_of_token token.at) token.tones
 
--- The entries of a track that are tones are the tones of its time tokens, each one once and in order: the same moments, keys and
--- velocities, and each with its own end.
+-- The entries of a track that are tones are the tones of its time tokens, each one once and in order: the same moments, keys,
+-- velocities and ties, and each with its own end.
 abbrev pub PlaysTones : Type 0
 PlaysTones = (tune : List (Bor Item)) (voice : List ℕ)
     → filter_map played_by (entries_from [] (play_of_voice tune voice)) ≡ flat_map tones_of_token (tokens_among (play_of_voice tune voice))

@@ -25,6 +25,8 @@ pub enum EntryKind {
         velocity: u8,
         /// Whether a tie joins it with a tone before it.
         joined: bool,
+        /// Whether a tie follows it and it has a key.
+        tied: bool,
     },
     /// A rest, or a rest of bars.
     Rest,
@@ -64,6 +66,7 @@ fn tone_entry(at: Grains, place: usize, previous: &[Tone], past: &[Tone], tone: 
             key: tone.key,
             velocity: tone.velocity,
             joined: is_joined(previous, past, tone.key),
+            tied: tone.tied && tone.key.is_some(),
         },
     }
 }

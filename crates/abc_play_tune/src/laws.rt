@@ -21,8 +21,8 @@ pub fn entries_begin_notes()
     ensures order { GroupsEntries }
 {}
 
-/// The entries that are tones are all tones of the time tokens of `plays_are_scores`, in order, each with its own end. A note of the
-/// score ends with the last tone of its chain.
+/// The entries that are tones are all tones of the time tokens of `plays_are_scores`, in order, each with its own end. They are tied
+/// if a tie follows the tone and it has a key. A note of the score ends with the last tone of its chain.
 pub fn entries_are_tones()
     ensures { PlaysTones }
 {}

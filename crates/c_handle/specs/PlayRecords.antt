@@ -1,5 +1,5 @@
 -- The play of a number as C sees it.
-use Rattle.std.specs.Prelude.{◌≡◌, ℕ, if◌then◌else◌, List, [], ◌∷◌, ◌++◌, length, map, nat_lt, Option, None, Some, option_map}
+use Rattle.std.specs.Prelude.{◌≡◌, ℕ, ◌+◌, if◌then◌else◌, List, [], ◌∷◌, ◌++◌, length, map, nat_lt, Option, None, Some, option_map}
 use Rattle.abc_lines.specs.Text.{Text}
 use Rattle.abc_play.specs.Play.{play_of, play_size}
 use Rattle.abc_play.specs.Refusal.{MOST_PLACES}
@@ -13,28 +13,28 @@ use Rattle.c_handle.specs.TokenRecords.{CopiesFound}
 use Rattle.c_handle.specs.declared.codes.TheConstants.{CODE_NOT_FOUND, CODE_OUT_OF_MEMORY, CODE_TOO_LONG}
 use Rattle.c_handle.specs.declared.open_session.OpenSession.{OpenSession}
 use Rattle.c_handle.specs.declared.play_record.PlayRecord.{PlayRecord}
-use Rattle.c_handle.specs.declared.play_record.TheConstants.{NO_KEY}
+use Rattle.c_handle.specs.declared.play_record.TheConstants.{JOINED, NO_KEY, TIED}
 
 -- The number of a kind, as the header of C has it.
 abbrev pub kind_number : EntryKind → ℕ
-kind_number (kinds.Note tone key velocity joined) = 1
+kind_number (kinds.Note tone key velocity joined tied) = 1
 kind_number kinds.Rest = 2
 kind_number kinds.Bar = 3
 
 -- The key of a tone that has one.
 abbrev pub key_number : EntryKind → ℕ
-key_number (kinds.Note tone (Some key) velocity joined) = key
+key_number (kinds.Note tone (Some key) velocity joined tied) = key
 key_number _ = NO_KEY
 
 -- The velocity of a tone with a key; 0 of all else.
 abbrev pub velocity_number : EntryKind → ℕ
-velocity_number (kinds.Note tone (Some key) velocity joined) = velocity
+velocity_number (kinds.Note tone (Some key) velocity joined tied) = velocity
 velocity_number _ = 0
 
--- Whether a tie joins a tone with one before it.
-abbrev pub joined_number : EntryKind → ℕ
-joined_number (kinds.Note tone key velocity joined) = if joined then 1 else 0
-joined_number _ = 0
+-- The ties of a tone as bits: JOINED if one joins it with a tone before it, TIED if one follows it and it has a key.
+abbrev pub ties_number : EntryKind → ℕ
+ties_number (kinds.Note tone key velocity joined tied) = (if joined then JOINED else 0) + (if tied then TIED else 0)
+ties_number _ = 0
 
 -- An entry with its numbers.
 abbrev pub play_record : PlayedEntry → PlayRecord
@@ -47,7 +47,7 @@ play_record entry = record {
   kind = kind_number entry.kind;
   key = key_number entry.kind;
   velocity = velocity_number entry.kind;
-  joined = joined_number entry.kind;
+  ties = ties_number entry.kind;
 }
 
 -- The tracks of a play: for each voice with a track its entries.

@@ -11,7 +11,7 @@ ghost use Rattle.abc_play.specs.declared.EntryKind.TheVariants as entries;
 ghost use Rattle.c_handle.specs.Answers.{count_answer};
 ghost use Rattle.c_handle.specs.Codes.{code_of};
 ghost use Rattle.c_handle.specs.Copies.{copy_answer, lookup_answer, slot_answer};
-ghost use Rattle.c_handle.specs.PlayRecords.{joined_number, key_number, kind_number as entry_number, play_record, velocity_number};
+ghost use Rattle.c_handle.specs.PlayRecords.{key_number, kind_number as entry_number, play_record, ties_number, velocity_number};
 ghost use Rattle.c_handle.specs.Sessions.{EditsSlot};
 ghost use Rattle.c_handle.specs.TokenRecords.{kind_number, token_record};
 ghost use Rattle.c_handle.specs.declared.open_session.OpenSession.{OpenSession};
@@ -65,15 +65,16 @@ pub fn records_of_tokens()
 
 /// The numbers of the record of an entry. Without a key of MIDI the key is 128 and the velocity 0.
 pub fn records_of_entries()
-    ensures kinds { map entry_number (entries.Note 0 None 80 false ∷ entries.Rest ∷ entries.Bar ∷ []) ≡ 1 ∷ 2 ∷ 3 ∷ [] }
-    ensures no_key { map key_number (entries.Note 0 None 80 false ∷ entries.Rest ∷ entries.Bar ∷ []) ≡ 128 ∷ 128 ∷ 128 ∷ [] }
-    ensures silent { map velocity_number (entries.Note 0 None 80 false ∷ entries.Rest ∷ entries.Bar ∷ []) ≡ 0 ∷ 0 ∷ 0 ∷ [] }
-    ensures joined { map joined_number (entries.Note 0 (Some 60) 80 true ∷ entries.Note 0 (Some 60) 80 false ∷ entries.Rest
-        ∷ entries.Bar ∷ []) ≡ 1 ∷ 0 ∷ 0 ∷ 0 ∷ [] }
+    ensures kinds { map entry_number (entries.Note 0 None 80 false false ∷ entries.Rest ∷ entries.Bar ∷ []) ≡ 1 ∷ 2 ∷ 3 ∷ [] }
+    ensures no_key { map key_number (entries.Note 0 None 80 false false ∷ entries.Rest ∷ entries.Bar ∷ []) ≡ 128 ∷ 128 ∷ 128 ∷ [] }
+    ensures silent { map velocity_number (entries.Note 0 None 80 false false ∷ entries.Rest ∷ entries.Bar ∷ []) ≡ 0 ∷ 0 ∷ 0 ∷ [] }
+    ensures ties { (key : Option ℕ) → map ties_number (entries.Note 0 key 80 false false ∷ entries.Note 0 key 80 true false
+        ∷ entries.Note 0 key 80 false true ∷ entries.Note 0 key 80 true true ∷ entries.Rest ∷ entries.Bar ∷ [])
+        ≡ 0 ∷ 1 ∷ 2 ∷ 3 ∷ 0 ∷ 0 ∷ [] }
     ensures fields { (on off line from to key velocity : ℕ) → play_record (record {
       on = on;
       off = off;
-      kind = entries.Note 0 (Some key) velocity true;
+      kind = entries.Note 0 (Some key) velocity true true;
       place = record { line = line; from = from; to = to };
     }) ≡ record {
       on = on;
@@ -84,7 +85,7 @@ pub fn records_of_entries()
       kind = 1;
       key = key;
       velocity = velocity;
-      joined = 1;
+      ties = 3;
     } }
 {}
 

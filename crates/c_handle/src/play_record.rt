@@ -1,7 +1,7 @@
 //! An entry of a play as C sees it.
 
 ghost use Rattle.std.specs.Prelude.{◌≡◌};
-ghost use Rattle.c_handle.specs.PlayRecords.{joined_number, key_number, kind_number, play_record, velocity_number};
+ghost use Rattle.c_handle.specs.PlayRecords.{key_number, kind_number, play_record, ties_number, velocity_number};
 
 use abc_play::{EntryKind, PlayedEntry};
 
@@ -9,6 +9,16 @@ use abc_play::{EntryKind, PlayedEntry};
 pub const NO_KEY: u8 = 128;
 
 const _: () = prove!(NO_KEY == 128);
+
+/// The bit of a tone that a tie joins with one before it.
+pub const JOINED: u8 = 1;
+
+const _: () = prove!(JOINED == 1);
+
+/// The bit of a tone with a key that a tie follows.
+pub const TIED: u8 = 2;
+
+const _: () = prove!(TIED == 2);
 
 /// The ticks of an entry, its place, and what it is. In C it is two `uint64_t`, three `uint32_t` and four `uint8_t`.
 #[repr(C)]
@@ -29,8 +39,8 @@ pub struct PlayRecord {
     pub key: u8,
     /// The velocity of a tone with a key, else 0.
     pub velocity: u8,
-    /// 1 for a tone that a tie joins with one before it, else 0.
-    pub joined: u8,
+    /// The bits `JOINED` and `TIED` of a tone, else 0.
+    pub ties: u8,
 }
 
 /// Returns the number of a kind. Numbers keep their meaning within a major version: new kinds come at the end.
@@ -68,13 +78,18 @@ fn velocity_number(kind: EntryKind) -> u8
     }
 }
 
-/// Returns 1 for a tone that a tie joins with one before it, else 0.
-fn joined_number(kind: EntryKind) -> u8
-    ensures value { result ≡ joined_number kind }
+/// Returns the bits of the ties of a tone, else 0.
+fn ties_number(kind: EntryKind) -> u8
+    ensures value { result ≡ ties_number kind }
 {
     match kind {
-        EntryKind::Note { joined: true, .. } => 1,
-        EntryKind::Note { joined: false, .. } | EntryKind::Rest | EntryKind::Bar => 0,
+        EntryKind::Note { joined, tied, .. } => match (joined, tied) {
+            (false, false) => 0,
+            (true, false) => JOINED,
+            (false, true) => TIED,
+            (true, true) => JOINED + TIED,
+        },
+        EntryKind::Rest | EntryKind::Bar => 0,
     }
 }
 
@@ -92,7 +107,7 @@ impl PlayRecord {
             kind: kind_number(entry.kind),
             key: key_number(entry.kind),
             velocity: velocity_number(entry.kind),
-            joined: joined_number(entry.kind),
+            ties: ties_number(entry.kind),
         }
     }
 }

@@ -107,24 +107,30 @@ fn print_kind<R: Runtime + AllocGlobal>(rt: &R, kind: EntryKind) -> io::Result<(
             key,
             velocity,
             joined,
+            tied,
             ..
-        } => print_note(rt, key, velocity, joined),
-        EntryKind::Rest => print!(rt; "rest - - 0 "),
-        EntryKind::Bar => print!(rt; "bar - - 0 "),
+        } => print_note(rt, key, velocity, bit(joined), bit(tied)),
+        EntryKind::Rest => print!(rt; "rest - - 0 0 "),
+        EntryKind::Bar => print!(rt; "bar - - 0 0 "),
     }
 }
 
-/// Prints a tone.
+/// Returns 1 if something holds, else 0.
+fn bit(holds: bool) -> u8 {
+    if holds { 1 } else { 0 }
+}
+
+/// Prints a tone. `joined` and `tied` are 1 or 0.
 fn print_note<R: Runtime + AllocGlobal>(
     rt: &R,
     key: Option<u8>,
     velocity: u8,
-    joined: bool,
+    joined: u8,
+    tied: u8,
 ) -> io::Result<()> {
-    let joined = if joined { 1 } else { 0 };
     match key {
-        Some(key) => print!(rt; "note {key} {velocity} {joined} "),
-        None => print!(rt; "note - - {joined} "),
+        Some(key) => print!(rt; "note {key} {velocity} {joined} {tied} "),
+        None => print!(rt; "note - - {joined} {tied} "),
     }
 }
 

@@ -93,7 +93,7 @@ def shifted(columns: list[int], units: Optional[list[int]]) -> list[int]:
 
 def track_rows(book: SessionBook, columns: Columns, number: int) -> Optional[list[list[int]]]:
     """The entries of the tracks of a number: of each entry nine numbers, its ticks, its line and columns, its kind, its key and velocity,
-    and whether it is joined. None if the number has no file, or too many entries."""
+    and the bits of its ties. None if the number has no file, or too many entries."""
     try:
         found = book.play_columns(number)
     except PlayTooLong:

@@ -54,6 +54,14 @@ const view = (more) => ({ from: 0, to: 2, tokens: [[0, 1, NOTE, 0, 1, 2, NOTE, 0
 const PLAY = [[], [0, 480, 0, 0, 1, 1, 60, 80, 0, 480, 960, 1, 0, 1, 2, 128, 0, 0]];
 
 const tests = {
+  async "the joined tones are those with the first bit of their ties"() {
+    const { seen, host } = begin("ABCD");
+    const row = (ties) => [0, 480, 0, ties, ties + 1, 1, 60, 80, ties];
+    host.views.push(view({ to: 1, tokens: [[]], tune: 3, play: [[], [0, 1, 2, 3].flatMap(row)] }));
+    seen.want({ tune: 3 });
+    await soon();
+    same(seen.playOf(3).tracks[1].entries.map((one) => one.joined), [false, true, false, true]);
+  },
   async "what is not known is asked for once, and comes to who draws"() {
     const world = begin("AB", "z"), { seen, host, asked } = world;
     host.views.push(view({ tune: 3, play: PLAY }));

@@ -74,7 +74,7 @@ def play_of(session: Session, number: int) -> Optional[dict[str, Any]]:
     entries = [
         [
             {"on": on, "off": off, "kind": kinds[kind], "key": key, "velocity": velocity, "joined": joined, "line": line - 1, "from": start - 1, "to": end - 1}
-            for on, off, kind, key, velocity, joined, line, start, end in track
+            for on, off, kind, key, velocity, joined, _, line, start, end in track
         ]
         for track in tracks
     ]
