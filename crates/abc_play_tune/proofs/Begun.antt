@@ -25,7 +25,7 @@ use Rattle.abc_play_tune.specs.declared.timed.TimedStep.{TimedStep}
 use Rattle.abc_play_tune.proofs.Tokens.{plays_score}
 
 -- the tones before a tone, in order or the last one first
-abbrev AreSame : List Tone → List Tone → Type 0
+abbrev pub AreSame : List Tone → List Tone → Type 0
 AreSame past back = (key : ℕ) → tones_with key past ≡ tones_with key back
 
 one_more : (key : ℕ) (past : List Tone) (tone : Tone) → tones_with key (past ++ tone ∷ []) ≡ tones_with key (tone ∷ past)
@@ -41,7 +41,7 @@ one_more key (first ∷ past) tone =
       | false ↦ refl
     ]
 
-still_same : (past back : List Tone) (tone : Tone) → AreSame past back → AreSame (past ++ tone ∷ []) (tone ∷ back)
+pub still_same : (past back : List Tone) (tone : Tone) → AreSame past back → AreSame (past ++ tone ∷ []) (tone ∷ back)
 still_same past back tone same key = one_more key past tone ∙ ap (λ n. cond (has_key key tone.key) (suc n) n) (same key)
 
 -- an entry of a tone

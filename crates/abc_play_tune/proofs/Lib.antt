@@ -3,6 +3,8 @@ pub mod Begun
 pub mod Counted
 pub mod Entering
 pub mod Lengths
+pub mod Passed
+pub mod Sounded
 pub mod Times
 pub mod Tokens
 pub mod Tracks
