@@ -81,7 +81,8 @@ fn play_of_owner(
 }
 
 /// Returns the play of the tune that owns a number: what each voice plays, when, and where it is in the present text. It is worked
-/// out when it is asked for, from the present text alone.
+/// out when it is asked for, from the present text alone. It returns `NoSuchNumber` if no tune owns the number, `TooLong` if more than
+/// `MOST_PLACES` steps are played, and `OutOfMemory` if an allocation fails.
 pub fn play_of_number(
     alloc: Global,
     session: &LiveSession<Abc>,

@@ -107,7 +107,8 @@ fn tracks_along<'t>(
 
 /// Returns what each voice with a track plays, from the beginning of a tune to its end. `opening` is the current voice before the
 /// first V: of the body, `voices` are the names of the voices, the one at place `first` has the first track, and the sections at
-/// `played` are played.
+/// `played` are played. It returns `TooMany` if more than `MOST_PLACES` steps are played, `TooLate` if the tune is longer than it may
+/// be, and `OutOfMemory` if an allocation fails.
 pub fn play_along<'t>(
     alloc: Global,
     tune: &[&'t Item],

@@ -71,7 +71,8 @@ impl From<RepeatFault> for StageError {
 }
 
 impl<T: AsItem> VoicePart<T> {
-    /// Returns the part of a voice in a section, if it has at most `room` steps.
+    /// Returns the part of a voice in a section. It returns `TooMany` if that has more than `room` steps, `TooLate` if it is longer
+    /// than a tune may be, and `OutOfMemory` if an allocation fails.
     pub fn of(
         alloc: Global,
         section: &Section<'_, T>,
@@ -106,7 +107,8 @@ impl<T: AsItem> VoicePart<T> {
 }
 
 impl<T: AsItem> Stage<T> {
-    /// Returns the parts of the voices in a section, if they have at most `room` steps.
+    /// Returns the parts of the voices in a section. It returns `TooMany` if they have more than `room` steps, `TooLate` if one is
+    /// longer than a tune may be, and `OutOfMemory` if an allocation fails.
     pub fn of(
         alloc: Global,
         section: &Section<'_, T>,

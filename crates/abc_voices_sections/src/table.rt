@@ -114,7 +114,8 @@ fn empty_table<T: AsItem>(
     Ok(table)
 }
 
-/// Returns the stages of the sections at some places, each at its section's place.
+/// Returns the stages of the sections at some places, each at its section's place. It returns `TooMany` if more than `MOST_PLACES`
+/// steps are played, `TooLate` if the tune is longer than it may be, and `OutOfMemory` if an allocation fails.
 pub fn stages<T: AsItem>(
     alloc: Global,
     sections: &[Section<'_, T>],
