@@ -1,4 +1,5 @@
 pub mod Difference
+pub mod Embedding
 pub mod Members
 pub mod Moves
 pub mod Order

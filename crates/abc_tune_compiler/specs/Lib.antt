@@ -1,4 +1,5 @@
 pub mod Book
+pub mod Embedding
 pub mod Fault
 pub mod Files
 pub mod Lawful

@@ -1,5 +1,6 @@
 //! Laws of every book. Each function has no body: its contract is the law.
 
+ghost use Rattle.abc_tune_compiler.specs.Embedding.{HasSameBook, HasSameTune};
 ghost use Rattle.abc_tune_compiler.specs.Laws.{FirstOwner, NoFaultLost, FaultsRise, CellsMove, ItemsMove, FaultsMove};
 ghost use Rattle.abc_tune_compiler.specs.Laws.{TunesMove, FaultsInLines, NoLinesNoBook};
 
@@ -30,4 +31,20 @@ pub fn faults_are_in_tunes<State, Cell, Items, Defaults>()
 /// The book of a text without lines is empty.
 pub fn no_lines_no_book<State, Cell, Items, Defaults>()
     ensures { NoLinesNoBook State Cell Items Defaults }
+{}
+
+/// A compiler inside another one makes the same as that one of lines that both read alike: the same tunes, and of a text of such
+/// lines the same book.
+pub fn compilers_in_others<
+    State,
+    Cell,
+    Items,
+    Defaults,
+    OuterState,
+    OuterCell,
+    OuterItems,
+    OuterDefaults,
+>()
+    ensures tunes { HasSameTune State Cell Items Defaults OuterState OuterCell OuterItems OuterDefaults }
+    ensures book { HasSameBook State Cell Items Defaults OuterState OuterCell OuterItems OuterDefaults }
 {}
