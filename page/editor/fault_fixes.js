@@ -20,7 +20,8 @@ const MENDS = {
   Unclosed: (known) => closingQuotes(known) ?? closing(known),
   BadReference: (known) => renumbering(known),
   SameNumber: (known) => renumbering(known),
-  BadByte: (known) => quotes(known) ?? sharp(known) ?? decoration(known) ?? blanks(known) ?? deletion(known),
+  BadByte: (known) => quotes(known) ?? tag(known) ?? sharp(known) ?? german(known) ?? decoration(known) ?? blanks(known) ?? deletion(known),
+  BadBroken: (known) => tag(known),
   LostSharp: (known) => throughTune(known, sharpsBefore, "Write each sharp before its note"),
   LostFlat: (known) => throughTune(known, flatsBefore, "Write each flat before its note"),
   GermanNote: (known) => throughTune(known, germanNotes, "Write B for H"),
@@ -112,6 +113,20 @@ function sharp(known) {
   if (text[start] !== "#") return null;
   if (/(?:^|[^\^_=])[A-Ga-g]$/.test(text.slice(0, start))) return replacing(known, start - 1, start + 1, `^${text[start - 1]}`);
   return /[A-Ga-g]/.test(text[start + 1] ?? "") ? replacing(known, start, start + 2, `^${text[start + 1]}`) : null;
+}
+
+/** The tune without markup, if a sign is in that: one sign less leaves the rest.
+ * @type {(known: Known) => Mend | null} */
+function tag(known) {
+  const { text, start } = known, from = text.lastIndexOf("<", start), to = text.indexOf(">", start);
+  const isInside = from >= 0 && to >= 0 && withoutMarkup(text.slice(from, to + 1)) === null;
+  return isInside ? throughTune(known, withoutMarkup, "Delete the markup") : null;
+}
+
+/** The tune with B for H, if a sign is the length after an H.
+ * @type {(known: Known) => Mend | null} */
+function german(known) {
+  return /\d/.test(known.text[known.start]) && /[Hh]$/.test(known.text.slice(0, known.start)) ? throughTune(known, germanNotes, "Write B for H") : null;
 }
 
 /** A decoration between exclamation marks.

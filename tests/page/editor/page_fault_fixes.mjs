@@ -46,6 +46,13 @@ const tests = {
       ["Delete the markup", "A<b>c|", '"<br>"CD % <br>', "w:<i>la</i>", "C|", "D|", "", "</pre>"]);
   },
 
+  "a sign of markup, or a length after an H, is not deleted alone"() {
+    const all = ["Delete the markup", "C|"];
+    same([line("C|</pre>", "/", "BadByte"), line("C|</pre>", "<", "BadBroken"), line("C|</pre>", ">", "BadBroken"), line("C|<br />", "/", "BadByte")], [all, all, all, all]);
+    same([line("A<b>c", "<", "BadBroken"), line("A<b|>c", ">", "BadBroken"), line("C>|/<", "/", "BadByte")], [null, null, ["Delete /", "C>|<"]]);
+    same([line("H2 C", "2", "BadByte"), line("h2 C", "2", "BadByte"), line("C|2", "2", "BadByte")], [["Write B for H", "B2 C"], ["Write B for H", "b2 C"], ["Delete 2", "C|"]]);
+  },
+
   "quotes of a word processor become straight ones, all of a line at once"() {
     same(line("\u201cBb\u201dB,2 \u201eC\u201f|c\u2019", "\u201c", "BadByte"), ["Write straight quotes", '"Bb"B,2 "C"|c\'']);
     same(line('"a \u201cb\u201d"C\u201dD % \u201c', "\u201dD", "BadByte"), ["Write straight quotes", '"a \u201cb\u201d"C"D % \u201c']);

@@ -11,7 +11,7 @@ MENDED = {"BadReference", "BadByte", "Unclosed", "LooseTie", "MissingKey", "BadP
 
 class Scripts(page_in_node.PageScripts):
     def test_scripts(self) -> None:
-        self.assert_ok("editor/page_fault_fixes.mjs", 12)
+        self.assert_ok("editor/page_fault_fixes.mjs", 13)
 
 
 class Mended(page_in_node.PageScripts):

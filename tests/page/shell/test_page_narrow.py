@@ -33,6 +33,20 @@ return ["count", "hinted", "before", "after", "undo", "redo", "signs-open", "tra
   return [rects[0].top + rects[0].height / 2, rects[0].right <= right + 1 && new Set([...lines.getClientRects()].map(({ top }) => top)).size === 1];
 });
 """
+TUNES_BAR = """
+const bar = document.querySelector("#tunes .bar"), buttons = [...bar.querySelectorAll("button")].map((one) => one.getBoundingClientRect());
+const { right } = bar.getBoundingClientRect();
+return [document.getElementById("filter").clientWidth, new Set(buttons.map(({ top }) => top)).size, buttons.every((one) => one.right <= right)];
+"""  # the width of the filter, the rows of the buttons, and whether all of these are inside
+BROKEN_LABELS = """
+const rows = (node) => {
+  const range = document.createRange();
+  range.selectNodeContents(node);
+  return new Set([...range.getClientRects()].map(({ top }) => Math.round(top))).size;
+};
+const labels = [...document.querySelectorAll("#practice :is(label, button)")].filter((one) => one.checkVisibility());
+return labels.flatMap((label) => [...label.childNodes].filter((node) => node.nodeType === 3 && node.nodeValue.trim() && rows(node) > 1)).map((node) => node.nodeValue.trim());
+"""  # the words beside a control that are in several rows
 FRAMES = "const done = arguments[0]; requestAnimationFrame(() => requestAnimationFrame(() => setTimeout(done)))"  # waits till two are shown
 BAR = """
 const ids = ["unsaved", "windows", "later", "utf-8"], parts = ids.map((id) => document.getElementById(id));
@@ -122,14 +136,31 @@ class Narrow(test_page_in_browser.Browser):
 
     def test_the_bar_of_the_faults(self) -> None:
         """It ends inside its panel, no words in it are broken, and the two arrows stay beside the counts, whatever is in the next row."""
-        for wide in (900, 820, 700, 621, 390, 360):
-            self.size(wide, 844)
+        for wide, high in ((900, 844), (820, 844), (700, 844), (683, 330), (621, 844), (621, 330), (390, 844), (360, 844)):
+            self.size(wide, high)
             self.run_script("document.getElementById('count').textContent = '2 faults'; Object.assign(document.getElementById('hinted'), { hidden: false, textContent: '6 hints' })")
             self.driver.execute_async_script(FRAMES)
             parts = self.run_script(ROWS)
-            self.assertTrue(all(is_whole for _, is_whole in parts), (wide, parts))
+            self.assertTrue(all(is_whole for _, is_whole in parts), (wide, high, parts))
             rows = [round(middle / 10) for middle, _ in parts]
-            self.assertEqual((len(set(rows[:4])), len(set(rows[4:]))), (1, 1), (wide, rows))
+            self.assertEqual((len(set(rows[:4])), len(set(rows[4:]))), (1, 1), (wide, high, rows))
+
+    def test_the_bar_of_the_tunes(self) -> None:
+        """The filter has room for a word, and the buttons are one row."""
+        for wide in (1920, 1600, 1366, 1201, 1024, 900, 820, 683, 621, 390):
+            self.size(wide, 844)
+            self.driver.execute_async_script(FRAMES)
+            room, rows, is_inside = self.run_script(TUNES_BAR)
+            self.assertGreater(room, 60, wide)
+            self.assertEqual((rows, is_inside), (1, True), wide)
+
+    def test_the_words_of_practice(self) -> None:
+        """Words of one control are in one row."""
+        self.driver.find_element("id", "practise").click()
+        for wide, high in ((1366, 768), (844, 390), (820, 844), (683, 330), (621, 844), (390, 844)):
+            self.size(wide, high)
+            self.driver.execute_async_script(FRAMES)
+            self.assertEqual(self.run_script(BROKEN_LABELS), [], (wide, high))
 
     def test_the_button_that_mends_a_fault(self) -> None:
         """It is beside the first words of its fault, so it is seen also if the sentence is longer than the list is high."""

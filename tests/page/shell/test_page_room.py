@@ -133,6 +133,7 @@ class Room(test_page_in_browser.Browser):
                 self.assertEqual(self.run_script(SHOWN), names)
                 self.view(f"whole-{name}")
                 self.assertEqual(self.run_script(SHOWN), ["text", "faults"] if name == "text" else [name])
+                self.assertEqual(self.run_script("return document.getElementById('zoom').checkVisibility()"), name == "roll" and wide > 620)
                 self.assertGreater(self.extent({"text": "sheet", "faults": "told"}.get(name, name))[1], high / 2, (name, wide))
                 self.run_script("document.getElementById('view-open').click()")
                 self.assertEqual(self.run_script(SHOWN), names)
