@@ -459,7 +459,7 @@ export class Sheet {
 
   /** Someone points into the area, which is where the caret goes. With Shift the selection begins where it was, which may be outside
    * of the area.
-   * @type {(event: { shiftKey: boolean, button?: number }) => void} */
+   * @type {(event: MouseEvent) => void} */
   point({ shiftKey, button }) {
     const { away } = this;
     if (button && isLong(away)) return; // the menu of the browser acts on the selection
@@ -523,12 +523,9 @@ export class Sheet {
     if (right - left + scrollLeft <= clientWidth) this.scroller.scrollLeft = 0;
   }
 
-  /** The caret may have moved. A finger that stays on a word selects it, without a button of a mouse. */
+  /** The caret may have moved. */
   watch() {
-    if (this.away && !isLong(this.away)) {
-      if (!this.area.selectionEnd || document.activeElement !== this.area) return;
-      this.point({ shiftKey: false });
-    }
+    if (this.away && !isLong(this.away)) return;
     const { line, column } = this.caret();
     this.placed({ line, column });
     const near = !this.away && ((line < this.first + EDGE && this.first > 0) || (line >= this.last - EDGE && this.last < this.text.lines.length));

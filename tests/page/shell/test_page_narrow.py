@@ -34,6 +34,8 @@ return ["count", "hinted", "before", "after", "undo", "redo", "signs-open", "tra
 });
 """
 TUNES_BAR = """
+document.getElementById("filter").value = arguments[0];
+document.getElementById("tally").textContent = arguments[1];
 const bar = document.querySelector("#tunes .bar"), buttons = [...bar.querySelectorAll("button")].map((one) => one.getBoundingClientRect());
 const { right } = bar.getBoundingClientRect();
 return [document.getElementById("filter").clientWidth, new Set(buttons.map(({ top }) => top)).size, buttons.every((one) => one.right <= right)];
@@ -146,13 +148,14 @@ class Narrow(test_page_in_browser.Browser):
             self.assertEqual((len(set(rows[:4])), len(set(rows[4:]))), (1, 1), (wide, high, rows))
 
     def test_the_bar_of_the_tunes(self) -> None:
-        """The filter has room for a word, and the buttons are one row."""
-        for wide in (1920, 1600, 1366, 1201, 1024, 900, 820, 683, 621, 390):
+        """The filter has room for a word, and the buttons are one row, also while a book of thousands is filtered."""
+        for wide in (1920, 1600, 1366, 1365, 1201, 1024, 900, 820, 683, 621, 390, 360):
             self.size(wide, 844)
-            self.driver.execute_async_script(FRAMES)
-            room, rows, is_inside = self.run_script(TUNES_BAR)
-            self.assertGreater(room, 60, wide)
-            self.assertEqual((rows, is_inside), (1, True), wide)
+            for words, tally in (("", "3"), ("ab", "1234 of 3000")):
+                self.driver.execute_async_script(FRAMES)
+                room, rows, is_inside = self.run_script(TUNES_BAR, words, tally)
+                self.assertGreater(room, 60, (wide, tally))
+                self.assertEqual((rows, is_inside), (1, True), (wide, tally))
 
     def test_the_words_of_practice(self) -> None:
         """Words of one control are in one row."""
