@@ -27,7 +27,7 @@ return [first(5), first(6)].every((note) => note && view.top <= note.top && note
 """
 ROWS = """
 const bar = document.querySelector("#faults .bar"), right = bar.getBoundingClientRect().right - parseFloat(getComputedStyle(bar).paddingRight);
-return ["count", "hinted", "before", "after", "undo", "redo", "signs-open", "transpose-open", "tidy-open"].map((id) => {
+return ["count", "hinted", "before", "after", "undo", "redo", "signs-open", "transpose-open", "tidy-open", "instruments-open"].map((id) => {
   const one = document.getElementById(id), rects = [...one.getClientRects()], lines = document.createRange();
   lines.selectNodeContents(one);
   return [rects[0].top + rects[0].height / 2, rects[0].right <= right + 1 && new Set([...lines.getClientRects()].map(({ top }) => top)).size === 1];
@@ -138,7 +138,7 @@ class Narrow(test_page_in_browser.Browser):
 
     def test_the_bar_of_the_faults(self) -> None:
         """It ends inside its panel, no words in it are broken, and the two arrows stay beside the counts, whatever is in the next row."""
-        for wide, high in ((900, 844), (820, 844), (700, 844), (683, 330), (621, 844), (621, 330), (390, 844), (360, 844)):
+        for wide, high in ((900, 844), (820, 844), (700, 844), (761, 330), (683, 330), (621, 844), (621, 330), (390, 844), (360, 844)):
             self.size(wide, high)
             self.run_script("document.getElementById('count').textContent = '2 faults'; Object.assign(document.getElementById('hinted'), { hidden: false, textContent: '6 hints' })")
             self.driver.execute_async_script(FRAMES)
@@ -157,10 +157,19 @@ class Narrow(test_page_in_browser.Browser):
                 self.assertGreater(room, 60, (wide, tally))
                 self.assertEqual((rows, is_inside), (1, True), (wide, tally))
 
+    def test_the_bar_of_the_instruments(self) -> None:
+        """The button that closes the dialog is beside its name and its search."""
+        self.run_script("document.getElementById('instruments-open').click()")
+        for wide in (820, 390, 360):
+            self.size(wide, 844)
+            self.driver.execute_async_script(FRAMES)
+            middles = self.run_script("return ['instruments-name', 'instruments-find', 'instruments-close'].map((id) => { const { top, bottom } = document.getElementById(id).getBoundingClientRect(); return Math.round((top + bottom) / 8); })")
+            self.assertEqual(len(set(middles)), 1, (wide, middles))
+
     def test_the_words_of_practice(self) -> None:
         """Words of one control are in one row."""
         self.driver.find_element("id", "practise").click()
-        for wide, high in ((1366, 768), (844, 390), (820, 844), (683, 330), (621, 844), (390, 844)):
+        for wide, high in ((1366, 768), (844, 390), (820, 844), (761, 330), (683, 330), (621, 844), (390, 844)):
             self.size(wide, high)
             self.driver.execute_async_script(FRAMES)
             self.assertEqual(self.run_script(BROKEN_LABELS), [], (wide, high))

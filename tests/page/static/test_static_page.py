@@ -63,6 +63,7 @@ return event.defaultPrevented;
 NO_CLIPBOARD = "navigator.clipboard.writeText = async () => { throw new DOMException('refused', 'NotAllowedError'); }; document.activeElement.blur();"
 SELECTED = "const { id, value, selectionStart, selectionEnd } = document.activeElement; return [id, value?.slice(selectionStart, selectionEnd)]"
 ROOM_BESIDE_THE_ROLL = "return document.querySelector('.views').clientWidth - document.querySelector('.stage').offsetWidth"
+MENDS = "return [...document.querySelectorAll('#told .mend')].map((button) => button.textContent)"
 MODULE_SIZE = "return (await (await fetch('abc2midi-live/abc2midi_live.wasm')).arrayBuffer()).byteLength;"
 SECTION = b"\x00\x05\x04note"  # of a module, without an effect
 
@@ -88,6 +89,21 @@ def noise(count: int) -> str:
 
 class Writing(StaticBrowser):
     """Writing and hearing, and what the browser keeps."""
+
+    def test_music_without_a_number_is_offered_one(self) -> None:
+        """At its first music, beside the only hint of this page, which goes when the tune begins, and comes back with the text."""
+        self.paste("Hello\n\nT:Air\nL:1/4\nK:G\nGABc|\n")
+        self.wait(lambda: self.run_script(MENDS) == ["Write X:1"])
+        self.assertEqual((self.text("hinted"), self.text("count")), ("1 hint", "No faults"))
+        self.run_script("document.querySelector('#told .mend').click()")
+        self.shows("Hello\n\nX:1\nT:Air\nL:1/4\nK:G\nGABc|\n")
+        self.lists("1Air")
+        self.wait(lambda: not self.is_seen("hinted") and self.run_script(MENDS) == [])
+        self.type("z", CONTROL)
+        self.wait(lambda: self.run_script(MENDS) == ["Write X:1"])
+        self.kept()
+        self.reload()
+        self.wait(lambda: self.text("hinted") == "1 hint")
 
     def test_write_see_faults_and_find(self) -> None:
         """An empty book offers a tune. One place says that there is no score, and the roll has the room of one."""
