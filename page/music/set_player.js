@@ -8,7 +8,7 @@ import { scoreOf } from "./midi_file.js";
 export class SetPlayer {
   /** @param {import("./music_panel.js").Music} music
    * @param {(words: string) => void} say
-   * @param {() => void} turned another tune of the set is heard */
+   * @param {() => void} turned a tune of the set is heard from now on */
   constructor(music, say, turned) {
     this.music = music;
     this.say = say;
@@ -36,6 +36,7 @@ export class SetPlayer {
     transport.showStop();
     practice.play(order[0], 0);
     player.queue = order.slice(1);
+    this.turned();
     if (player.font?.name) void player.font.loadAll(player.audio, [...this.numbers.keys()].flatMap(({ notes }) => notes.map((note) => player.shifted(note))));
     shown.stopTimer();
   }

@@ -69,7 +69,7 @@ class Commands(test_page_in_browser.Browser):
         self.driver.find_element("id", "order-midi-file").send_keys(str(other))
         self.wait(lambda: self.text("status").startswith("Took in My tune.mid, as midi2abc reads it."))
         lines = self.book()["lines"]
-        self.assertEqual((lines[:9], [line.replace(" ", "") for line in lines[9:12]]), (self.lines[:-1], ["", "X:6", "T:Mytune"]))
+        self.assertEqual((lines[:9], [line.replace(" ", "") for line in lines[9:12]]), (self.lines[:-1], ["", "X:1", "T:Mytune"]))
         self.assertEqual("".join(lines[-2].split()), "CDEFGABc|")
         self.press("z", CONTROL)
         self.wait_for_lines(*self.lines)

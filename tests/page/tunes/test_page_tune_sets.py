@@ -1,11 +1,15 @@
 """The sets of a book: their lines, without a browser; their dialog and how they play, in a real one."""
 
+import shutil
+import unittest
+
 import music_page
 import page_in_node
 from test_page_in_browser import CONTROL
 
 TUNES = ["X:1", "T:One", "M:2/4", "L:1/4", "Q:1/4=60", "K:C", "CD|", "", "X:7", "T:Seven", "M:2/4", "L:1/4", "Q:1/4=60", "K:C", "EF|"]
 ROWS = "return [...document.querySelectorAll('#sets-rows li')].map((row) => [row.querySelector('span').textContent, row.querySelector('input').value])"
+DRAWN = "return [...new Set([...document.querySelectorAll('#score .score-place')].map(({ note }) => note.line))]"
 
 
 class Scripts(page_in_node.PageScripts):
@@ -40,6 +44,18 @@ class Sets(music_page.MusicPage):
         self.hear(5, 60, 62, 60, 62, 64, 65)
         self.run_script("clock = 7")
         self.wait(lambda: "Play" in self.text("play"))
+
+    @unittest.skipUnless(shutil.which("abcm2ps"), "abcm2ps is not installed")
+    def test_the_score(self) -> None:
+        """It is that of the tune that is heard, from the first one on, wherever the caret is."""
+        self.open(['% Set "Two": 1, 7', "", *TUNES], "1 bars")
+        self.caret(16, 0)
+        self.wait(lambda: self.run_script(DRAWN) == [16])
+        self.click("sets-open")
+        self.click("sets-play")
+        self.wait(lambda: self.run_script(DRAWN) == [8])
+        self.run_script("clock = 2.2")
+        self.wait(lambda: self.run_script(DRAWN) == [16])
 
     def test_a_set_of_another_day(self) -> None:
         """A tune that is not in the book is named, and left out."""
