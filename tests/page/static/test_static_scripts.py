@@ -131,7 +131,8 @@ class StaticScripts(common.Room):
         asked = re.findall(r'<link rel="modulepreload" href="(.*)">', (self.page / "index.html").read_text())
         self.assertEqual((asked[0], len(asked)), ("static/static_page.js", len(set(asked))))
         scripts = {path.relative_to(self.page).as_posix() for path in self.page.rglob("*.js")}
-        others = {"abc2midi-live/worker_body.js", "editor/search_worker.js", "link/book_host.js", "service_worker.js", "shell/reload_on_failure.js"}
+        others = {"abc2midi-live/worker_body.js", "editor/search_worker.js", "music/wav_worker.js", "music/wav_file.js"}
+        others |= {"link/book_host.js", "service_worker.js", "shell/reload_on_failure.js"}
         self.assertEqual(scripts - set(asked), others)
         self.assertLessEqual(set(asked), scripts)
 
