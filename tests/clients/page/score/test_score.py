@@ -800,7 +800,7 @@ class Limits(Harm):
     def test_a_process_that_ends(self) -> None:
         """The next question starts another one, and the tune is tried again."""
         scorer = self.scorer()
-        self.program("while :; do sleep 1000; done")
+        self.program("while :; do :; done")
         self.when_running("/bin/sh", lambda: process_of(scorer).kill())
         self.assertEqual(self.ask(scorer), {"why": "The process that draws scores ended on this tune."})
         self.program("exit 1")
@@ -820,7 +820,7 @@ class Limits(Harm):
     def test_the_end_while_it_draws(self) -> None:
         """Nothing is left."""
         scorer = Scorer()
-        self.program("while :; do sleep 1000; done")
+        self.program("while :; do :; done")
         self.when_running("/bin/sh", scorer.close)
         self.assertIn("ended", self.ask(scorer)["why"])
         self.assertEqual(os.listdir(self.files), [])

@@ -140,7 +140,7 @@ class Walls(test_score.Harm):
 
     def test_the_end_while_a_pdf_is_made(self) -> None:
         """The server closes, and no process is left."""
-        self.bin_program("abcm2ps", "while :; do sleep 1000; done")
+        self.bin_program("abcm2ps", "while :; do :; done")
         self.bin_program("gs", "exit 1")
         with Server(0, SharedBookStub(), argparse.Namespace(open=False, plain_sounds=True)) as server:
             self.when_running("/bin/sh", server.server_close)
