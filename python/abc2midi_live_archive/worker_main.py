@@ -2,6 +2,7 @@
 
 from __future__ import annotations
 
+import gc
 import os
 import select
 import threading
@@ -14,11 +15,13 @@ from .units import Outcome, Result, Unit
 from .worker_process import children_of, kill_groups
 
 SECONDS_IDLE = 60.0  # after them a worker ends
+MOST_UNSEEN = 50_000  # objects that are made before Python looks for cycles of them: rows of tunes are none
 
 
 def serve(descriptor: int) -> None:
     """Does the units that come over a connection, until there are no more, or nobody is at its other end."""
     os.set_inheritable(descriptor, False)
+    gc.set_threshold(MOST_UNSEEN)
     threading.Thread(target=end_with_starter, args=(descriptor,), daemon=True).start()
     with Connection(descriptor) as connection, suppress(EOFError, ConnectionError):
         while connection.poll(SECONDS_IDLE):

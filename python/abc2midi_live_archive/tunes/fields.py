@@ -16,13 +16,13 @@ from ..cutting import end_of_header, is_blank
 from .keys import NO_KEY, key_of
 from .note_unit import UnitFields, unit_of
 
-TEXTS = b"CORSZBN"  # the letters of the fields from the composer to the annotations
+TEXTS = "CORSZBN"  # the letters of the fields from the composer to the annotations
 BARS = (b"|", b":")
 NOTES = frozenset(b"ABCDEFGabcdefgxz")  # with a bar line in column 2 they are music
 LYRICS = frozenset(b"wW")
 TITLE, KEY, METER, UNIT, TEMPO = b"TKMLQ"
 BLANK, COMMENT_LINE = "blank", "comment"
-READ = frozenset(TEXTS) | LYRICS
+READ = frozenset(TEXTS.encode()) | LYRICS
 OF_HEADER = READ | {TITLE, KEY, METER, UNIT, TEMPO}  # the fields that are read there
 LETTERS = frozenset(range(65, 91)) | frozenset(range(97, 123)) | {43}  # that begin a field: letters and +
 LAST_LOW = 37  # the code of %: a line that begins with a greater one is no comment and not blank
@@ -33,7 +33,7 @@ SIGN = re.compile(rb'"([^"\n]*)"|![^!\n]*!|\[[A-Za-z]:[^\]\n]*\]|\[([^\[\]|\n]*)
 BEGINNING = re.compile(rb'["!\[{&]')
 ENDS = {b'"': b'"', b"!": b"!", b"[": b"]", b"{": b"}"}  # of what has one, by its first byte
 CHORD_NAMES = frozenset(b"ABCDEFG")  # their first letters
-DECIDING = (b'"', b"&", b"!", b"%")  # without these and inline fields any grace notes without brackets are grace notes
+# Without quotes, overlays, decorations, comments and inline fields any grace notes without brackets are grace notes.
 GRACE, INLINE = re.compile(rb"\{[^{}\[\]\n]*\}"), re.compile(rb"\[[A-Za-z]:")
 # Most tunes have a header of fields alone, without comments, and then lines of music up to the first blank line.
 PLAIN_HEADER = re.compile(rb"(?:(?!K)[A-Za-z]:(?:[^|:%\r\n][^%\r\n]*)?\n)*K:[^%\r\n]*(?:\n|\Z)")
@@ -77,7 +77,7 @@ class Block:
 
     def __init__(self, lines: Sequence[bytes]):
         """Reads a tune from its `X:` line to the first blank line."""
-        self.values: dict[int, str] = {}
+        self.values: dict[str, str] = {}
         self.music = b""
         self.size = len(lines)
         text = b"\n".join(lines)
@@ -93,7 +93,7 @@ class Block:
             return False
         values = self.values
         for line in text[:end].decode("ascii").removesuffix("\n").split("\n"):
-            letter, value = ord(line[0]), line[2:].strip(" \t")
+            letter, value = line[0], line[2:].strip(" \t")
             values[letter] = f"{values[letter]}\n{value}" if letter in values else value
         self.music = text[end:stop]
         self.size = text.count(b"\n", 0, stop) + 1
@@ -118,7 +118,7 @@ class Block:
                 self.size = n
                 break
         self.music = b"\n".join(music)
-        self.values = {letter: "\n".join(each) for letter, each in values.items()}
+        self.values = {chr(letter): "\n".join(each) for letter, each in values.items()}
 
 
 def is_field(line: bytes) -> bool:
@@ -143,12 +143,12 @@ def fields_of(lines: Sequence[bytes], line: int, file_header: UnitFields) -> Fie
     """Returns the fields of a tune by its lines, from its `X:` line, which is this line of its book, to the next one."""
     block = Block(lines)
     value = block.values.get
-    key_text = value(KEY)
+    key_text = value("K")
     key = key_of(key_text) if key_text else NO_KEY
-    unit = opening_unit(value(METER), value(UNIT), file_header)
-    has_lyrics = not LYRICS.isdisjoint(block.values)
+    unit = opening_unit(value("M"), value("L"), file_header)
+    has_lyrics = "w" in block.values or "W" in block.values
     last, texts = line + block.size - 1, map(value, TEXTS)
-    return Fields._make((value(TITLE), last, *texts, key_text, *key, value(TEMPO), unit, has_lyrics, *signs_of(block.music)))
+    return Fields._make((value("T"), last, *texts, key_text, *key, value("Q"), unit, has_lyrics, *signs_of(block.music)))
 
 
 @lru_cache(1024)
@@ -172,7 +172,8 @@ def signs_of(music: bytes) -> Signs:
     """Returns which signs lines of music have."""
     if not has_signs(music):
         return NO_SIGNS
-    if not any(sign in music for sign in DECIDING) and GRACE.search(music) and not INLINE.search(music):
+    is_deciding = b'"' in music or b"&" in music or b"!" in music or b"%" in music
+    if not is_deciding and GRACE.search(music) and not INLINE.search(music):
         return GRACE_NOTES_ALONE
     found = [False, False, False]
     look_for_signs(COMMENT.sub(b"", music) if b"%" in music else music, found)
