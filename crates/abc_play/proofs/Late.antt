@@ -7,7 +7,7 @@ use Rattle.abc_time.specs.Grains.{grains_of_the_latest_end}
 use Rattle.abc_voices.specs.Layout.{end_of, last_off, total, voices_notes}
 use Rattle.abc_voices_score.specs.declared.score.Sounding.{Sounding}
 
-no_earlier : (at : ℕ) (notes : List Sounding) → at ≤ last_off at notes
+pub no_earlier : (at : ℕ) (notes : List Sounding) → at ≤ last_off at notes
 no_earlier at [] = omega arith
 no_earlier at (note ∷ notes) =
     let later = no_earlier (max at note.off.0) notes in

@@ -8,6 +8,7 @@ pub mod Numbers
 pub mod OneByOne
 pub mod Owned
 pub mod Played
+pub mod PlayedFile
 pub mod PlaysText
 pub mod References
 pub mod TextPlaces

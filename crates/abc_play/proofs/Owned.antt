@@ -29,12 +29,12 @@ abbrev pub ChainOf : Type 0
 ChainOf = ChainView Entry (List (Spanned TokenKind)) Items
 
 -- an owner has a file
-record Owns {A : Type 0} (number_of : A → ℕ) (file_of : A → Option (List ℕ)) (at : ℕ) (all : List A) (i : ℕ) : Type 0 where
-  one : A
-  k : ℕ
-  place : i ≡ at + k
-  here : slice_get all k ≡ Some one
-  file : is_some (file_of one) ≡ true
+pub record Owns {A : Type 0} (number_of : A → ℕ) (file_of : A → Option (List ℕ)) (at : ℕ) (all : List A) (i : ℕ) : Type 0 where
+  pub one : A
+  pub k : ℕ
+  pub place : i ≡ at + k
+  pub here : slice_get all k ≡ Some one
+  pub file : is_some (file_of one) ≡ true
 
 after_one : {A : Type 0} (number_of : A → ℕ) (file_of : A → Option (List ℕ)) (at : ℕ) (one : A) (rest : List A) (i : ℕ)
     → Owns number_of file_of (at + 1) rest i → Owns number_of file_of at (one ∷ rest) i
@@ -51,7 +51,7 @@ by_test number_of file_of at one rest i true true later has is others =
 by_test number_of file_of at one rest i true false later has is others = after_one number_of file_of at one rest i (others is)
 by_test number_of file_of at one rest i false has_file later has is others = after_one number_of file_of at one rest i (others is)
 
-owned : {A : Type 0} (number_of : A → ℕ) (file_of : A → Option (List ℕ)) (at : ℕ) (all : List A) (number i : ℕ)
+pub owned : {A : Type 0} (number_of : A → ℕ) (file_of : A → Option (List ℕ)) (at : ℕ) (all : List A) (number i : ℕ)
     → owner_by number_of file_of at all number ≡ Some i → Owns number_of file_of at all i
 owned number_of file_of at [] number i is = absurd (none-some i is)
 owned number_of file_of at (one ∷ rest) number i is =
@@ -63,7 +63,7 @@ has_file : (long : Bool) (file : List ℕ) → is_some (cond long None (Some fil
 has_file true file is = absurd (false≢true is)
 has_file false file is = refl
 
-built_short : (given : List Items) → is_some (bytes_of given) ≡ true → is_too_long (items_in given) ≡ false
+pub built_short : (given : List Items) → is_some (bytes_of given) ≡ true → is_too_long (items_in given) ≡ false
 unfolding bytes_of
 built_short given is = has_file (is_too_long (items_in given)) _ is
 

@@ -179,7 +179,7 @@ fits_placed kinds.Rest (items.Rest time bar) fits = refl
 fits_placed kinds.Bar (items.Bar line) fits = refl
 fits_placed _ _ fits = absurd fits
 
-referred_items : (own : List Item) → items_of (map referred own) ≡ own
+pub referred_items : (own : List Item) → items_of (map referred own) ≡ own
 referred_items [] = refl
 referred_items (item ∷ own) = ap (λ l. item ∷ l) (referred_items own)
 

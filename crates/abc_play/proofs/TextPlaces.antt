@@ -176,7 +176,7 @@ values_line : (number : ℕ) (cells : List Tokens) → placed_values (map (place
 values_line number [] = refl
 values_line number (cell ∷ cells) = ap (λ l. cell ∷ l) (values_line number cells)
 
-values_from : (number : ℕ) (lines : Text) → placed_values (cells_from rules_of_abc.cells number lines) ≡ flat_map rules_of_abc.cells lines
+pub values_from : (number : ℕ) (lines : Text) → placed_values (cells_from rules_of_abc.cells number lines) ≡ flat_map rules_of_abc.cells lines
 values_from number [] = refl
 values_from number (line ∷ lines) =
     values_append (map (placed_at number) (rules_of_abc.cells line)) (cells_from rules_of_abc.cells (number + 1) lines)

@@ -9,6 +9,9 @@ ghost use Rattle.abc_live_text.specs.KeptText.{AreRows};
 ghost use Rattle.abc_repeat.specs.declared.play.TheConstants.{MOST_PLACES};
 ghost use Rattle.abc_tune.specs.Abc.{rules_of_abc, steps_of_abc};
 ghost use Rattle.abc_voices.specs.Layout.{is_too_long, items_in};
+ghost use Rattle.abc_tune_compiler.specs.Book.{book_of};
+ghost use Rattle.abc_tune_compiler.specs.Files.{file_at};
+ghost use Rattle.abc_play.specs.File.{PlaysFile};
 ghost use Rattle.abc_play.specs.Play.{block_play, block_size, opening_in, play_of, play_size, tunes_of};
 ghost use Rattle.abc_play.specs.Refusal.{RefusesTune, RefusesPlay};
 
@@ -81,7 +84,8 @@ fn play_of_owner(
 }
 
 /// Returns the play of the tune that owns a number: what each voice plays, when, and where it is in the present text. It is worked
-/// out when it is asked for, from the present text alone. It returns `NoSuchNumber` if no tune owns the number, `TooLong` if more than
+/// out when it is asked for, from the present text alone. It is what the file of the number plays: the notes of each voice there are
+/// the sounds of the entries of its track. It returns `NoSuchNumber` if no tune owns the number, `TooLong` if more than
 /// `MOST_PLACES` steps are played, and `OutOfMemory` if an allocation fails.
 pub fn play_of_number(
     alloc: Global,
@@ -89,6 +93,7 @@ pub fn play_of_number(
     number: u32,
 ) -> Result<Play, PlayError>
     ensures value { IfOk result (λ play. play_of session.now.text number ≡ Some play.tracks) }
+    ensures file { IfOk result (λ play. PlaysFile (file_at (book_of steps_of_abc rules_of_abc session.now.text).files number) play.tracks) }
     ensures few { IfOk result (λ _. play_size session.now.text number ≤ MOST_PLACES) }
     ensures refused { IfErr result (RefusesPlay session.now.text number) }
 {
