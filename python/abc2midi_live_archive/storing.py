@@ -15,7 +15,7 @@ from contextlib import contextmanager, suppress
 from typing import Optional
 
 from abc2midi_live_clients.common.regular_file import open_regular
-from abc2midi_live_clients.common.replaced_file import CREATING, RIGHTS, replacing
+from abc2midi_live_clients.common.replaced_file import CREATING, RIGHTS, name_folder, replacing
 
 from .disks import sync_file_system
 
@@ -78,7 +78,7 @@ def store_new_folder(path: str, files: Mapping[int, bytes], syncs: bool) -> bool
                 return False
             for number, data in files.items():
                 write_file(folder, f"{number}.mid", data)
-            os.rename(new, path)
+            name_folder(new, path)
             if syncs:
                 sync_file_system(folder)
     except BaseException as error:

@@ -70,6 +70,11 @@ def replace(new: str, path: str) -> None:
     os.replace(new, path)
 
 
+def name_folder(new: str, path: str) -> None:
+    """Gives a new folder its name, which may be that of an empty folder. Raises OSError."""
+    os.rename(new, path)
+
+
 def exchange(one: str, other: str) -> bool:
     """Exchanges the names of two files in one step; False if the system cannot do that. Raises OSError."""
     call = getattr(LIBRARY, "renameat2", None)

@@ -138,7 +138,7 @@ class Colours(test_page_in_browser.Browser):
         self.edit(0, 1, *["C|"] * 5000)
         self.load()
         self.type("a", CONTROL)
-        self.wait(lambda: self.run_script("const area = document.querySelector('textarea'); return area.selectionEnd - area.selectionStart") == 14_999)
+        self.wait(lambda: self.run_script("return document.querySelector('textarea').classList.contains('away')"))
         for top in (0, 50_000):
             self.run_script("document.querySelector('.scroller').scrollTop = arguments[0]", top)
             self.wait(lambda: self.run_script(COVERS))
