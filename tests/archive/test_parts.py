@@ -264,7 +264,8 @@ class Storing(setting.Room):
         self.assertEqual(setting.tree(self.to), {"1.mid": b"12345"})
 
     def test_what_a_killed_run_left_of_a_new_folder_goes(self) -> None:
-        for act in (lambda: storing.store_files(str(self.to), {1: b"one"}), lambda: storing.remove_halves(str(self.to))):
+        acts: list[Callable[[], object]] = [lambda: storing.store_files(str(self.to), {1: b"one"}), lambda: storing.remove_halves(str(self.to))]
+        for act in acts:
             self.write(".to.new/1.mid", b"on")
             act()
             self.assertFalse((self.folder / ".to.new").exists())
