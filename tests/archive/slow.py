@@ -42,7 +42,7 @@ class Slow(setting.Runs):
     def start_and_wait(self, *words: Any) -> "subprocess.Popen[bytes]":
         """Starts a run, and waits for its first files."""
         process = self.start(self.folder / "in", *words)
-        wait_for(lambda: bool(list(self.to.glob("*/*.mid"))) or process.poll() is not None)
+        wait_for(lambda: bool(list(self.to.glob("[!.]*/*.mid"))) or process.poll() is not None)
         return process
 
 

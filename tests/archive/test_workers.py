@@ -97,7 +97,7 @@ class Kills(Slow):
                 self.to = self.folder / f"to_{trial}"
                 self.hold(books - held)
                 process, done = self.start(self.folder / "small", "--jobs", "4"), chance.randrange(1, books - held)
-                wait_for(lambda: len(list(self.to.glob("*/*.mid"))) >= done or process.poll() is not None)
+                wait_for(lambda: len(list(self.to.glob("[!.]*/*.mid"))) >= done or process.poll() is not None)
                 with suppress(ProcessLookupError):  # it has ended, and the next line says how
                     os.killpg(process.pid, signal.SIGINT)
                 out, err = process.communicate(timeout=setting.SECONDS)

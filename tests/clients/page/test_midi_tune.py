@@ -79,7 +79,8 @@ class Made(unittest.TestCase):
 
     def test_what_a_window_sends(self) -> None:
         self.assertEqual(data_of(sent(b"abc")), b"abc")
-        for wrong, status in (({}, 400), ({"data": ""}, 400), ({"data": "*YWJj"}, 400), ({"data": "YQ"}, 400), ({"data": 1}, 400), (sent(b"x" * (MOST_BYTES + 1)), 413)):
+        wrongs: list[tuple[dict[str, Any], int]] = [({}, 400), ({"data": ""}, 400), ({"data": "*YWJj"}, 400), ({"data": "YQ"}, 400), ({"data": 1}, 400), (sent(b"x" * (MOST_BYTES + 1)), 413)]
+        for wrong, status in wrongs:
             with self.assertRaises(Refused) as refused:
                 data_of(wrong)
             self.assertEqual(refused.exception.status, status)
