@@ -17,6 +17,5 @@ pub use abc_lines::EditError;
 pub use abc2midi_live_protocol::Command;
 pub use book_fault::fault_of_book;
 pub use run_fault::RunFault;
-pub use run_loop::MOST_READS;
 pub use streams::{Piped, Sink, Source, Store, StoreFault, StreamFault};
 pub use transcript::{run, run_before_exit};

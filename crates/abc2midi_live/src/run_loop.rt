@@ -12,7 +12,7 @@ use abc_fold::Work;
 use std::alloc::Global;
 
 /// The most reads of a run.
-pub const MOST_READS: u32 = 4_294_967_295;
+pub(crate) const MOST_READS: u32 = 4_294_967_295;
 
 /// The most bytes of one read.
 const PIECE: usize = 8_192;

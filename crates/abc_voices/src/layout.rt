@@ -1,14 +1,14 @@
 //! The layout of a tune in time.
 
 ghost use Rattle.std.specs.Prelude.{◌≡◌, ◌≢◌, ◌<◌, ◌≤◌, ◌++◌, ◌-◌, ◌^◌, ◌&&◌, nat_le, Bool, true, false, min, length, map, All};
-ghost use Rattle.std.specs.Prelude.{None, IfOk, OnOk};
+ghost use Rattle.std.specs.Prelude.{None, IfOk, OnOk, ◌↔◌, ◌⊎◌};
 ghost use Rattle.std.specs.List.{list_any};
 ghost use Rattle.abc_bars_items.specs.Item.{IsItem};
 ghost use Rattle.abc_text.specs.declared.limits.TheConstants.{MOST_VOICES};
 ghost use Rattle.abc_repeat.specs.Order.{sections_of, has_unknown};
 ghost use Rattle.abc_time.specs.Grains.{grains_of_the_latest_end};
 ghost use Rattle.abc_voices_sections.specs.Items.{items_of};
-ghost use Rattle.abc_voices_sections.specs.declared.stage.StageError.TheVariants.{TooMany, TooLate};
+ghost use Rattle.abc_voices_sections.specs.declared.stage.StageError.TheVariants.{TooMany, TooLate, OutOfMemory};
 ghost use Rattle.abc_repeat.specs.declared.order.TheConstants.{MOST_SECTIONS};
 ghost use Rattle.abc_repeat.specs.declared.play.TheConstants.{MOST_PLACES};
 ghost use Rattle.abc_voices.specs.Turns.{first_place, stages_in};
@@ -21,6 +21,7 @@ ghost use Rattle.abc_voices.specs.Opening.{order_after, after_all};
 ghost use Rattle.abc_voices_sections.specs.Section.{letters, sections};
 ghost use Rattle.abc_voices_sections.specs.Stage.{content, stage_items, stage_of};
 ghost use Rattle.abc_voices_sections.specs.Table.{at_places};
+ghost use Rattle.abc_voices_sections.specs.Turns.{length_along};
 ghost use Rattle.abc_voices.specs.Track.{voice_names};
 
 use crate::arranged::{Arranged, BuildFault};
@@ -161,6 +162,7 @@ fn lay_out_turns(
     ensures in_time { IfOk result (λ _. end_of (items_of tune.now) ≤ grains_of_the_latest_end) }
     ensures too_many { result ≢ Err TooMany }
     ensures too_late { result ≡ Err TooLate → grains_of_the_latest_end < end_of (items_of tune.now) }
+    ensures memory { result ≡ Err OutOfMemory → length_along (stages_in turns.now) ≤ grains_of_the_latest_end }
 {
     let Some(total) = length_along(turns) else {
         return Err(StageError::TooLate);
@@ -210,6 +212,18 @@ fn are_voices_and_title_within(score: &Score) -> bool
     score.voices.len() <= MOST_VOICES && score.title.len() <= LONGEST_TITLE
 }
 
+/// Returns the error of a tune without a score: out of memory only if an allocation failed, else too long.
+fn fault_of(why: StageError, unknown: bool) -> BuildFault
+    ensures too_long { (other : Bool) → result ≡ BuildFault.TooLong other → (why ≡ TooMany) ⊎ (why ≡ TooLate) }
+    ensures unknown { (other : Bool) → result ≡ BuildFault.TooLong other → other ≡ unknown }
+    ensures memory { (result ≡ BuildFault.OutOfMemory) ↔ (why ≡ OutOfMemory) }
+{
+    match why {
+        StageError::TooMany | StageError::TooLate => BuildFault::TooLong { unknown },
+        StageError::OutOfMemory => BuildFault::OutOfMemory,
+    }
+}
+
 /// Lays out a tune, from its items and the sections that are played, unless it passes a limit.
 fn arrange_within_limits(
     alloc: Global,
@@ -242,9 +256,7 @@ fn arrange_within_limits(
                 Err(BuildFault::TooLong { unknown })
             }
         }
-        Err(StageError::TooMany) => Err(BuildFault::TooLong { unknown }),
-        Err(StageError::TooLate) => Err(BuildFault::TooLong { unknown }),
-        Err(StageError::OutOfMemory) => Err(BuildFault::OutOfMemory),
+        Err(why) => Err(fault_of(why, unknown)),
     }
 }
 

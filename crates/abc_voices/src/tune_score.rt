@@ -1,6 +1,6 @@
 //! The score of stages that are played one after another.
 
-ghost use Rattle.std.specs.Prelude.{true, ◌≡◌, ◌≢◌, ◌<◌, ◌≤◌, ◌-◌, All, IfOk};
+ghost use Rattle.std.specs.Prelude.{true, ◌≡◌, ◌≢◌, ◌<◌, ◌≤◌, ◌-◌, All, IfOk, OnErr};
 ghost use Rattle.std.specs.List.{flat_map};
 ghost use Rattle.abc_time.specs.Grains.{grains_of_the_latest_end};
 ghost use Rattle.abc_voices_sections.specs.Items.{items_of};
@@ -68,6 +68,22 @@ fn latest_end(at: Grains, voices: &[Sequence<Sounding>]) -> Grains
     last
 }
 
+/// Returns the later of a moment and the last end of the notes of some voices, unless it is later than a tune may end. It
+/// allocates nothing, so the only error is that.
+#[tactic(auto, unfolding(abc_time::specs::Grains::grains_of_a_whole_note, abc_time::specs::Grains::grains_of_the_latest_end))]
+fn end_within_limit(at: Grains, voices: &[Sequence<Sounding>]) -> Result<Grains, StageError>
+    ensures value { IfOk result (λ end. end.0 ≡ last_off at.0 (flat_map (λ notes. notes) voices.now)) }
+    ensures in_time { IfOk result (λ end. end.0 ≤ grains_of_the_latest_end) }
+    ensures too_late { OnErr result ((result ≡ Err TooLate)
+        × (grains_of_the_latest_end < last_off at.0 (flat_map (λ notes. notes) voices.now))) }
+{
+    let end = latest_end(at, voices);
+    if end > LATEST_END {
+        return Err(StageError::TooLate);
+    }
+    Ok(end)
+}
+
 /// Returns the score of stages that are played up to a moment, from the items of their tune's fields. The voices from
 /// place `first` on have tracks.
 #[tactic(auto, unfolding(abc_time::specs::Grains::grains_of_a_whole_note, abc_time::specs::Grains::grains_of_the_latest_end))]
@@ -92,10 +108,7 @@ pub(crate) fn score_along(
         → grains_of_the_latest_end < end_along (stages_in turns.now) (voices_along (stages_in turns.now) first (count - first)) }
 {
     let voices = voices_notes(alloc, turns, total, first, count)?;
-    let end = latest_end(total, voices.as_slice());
-    if end > LATEST_END {
-        return Err(StageError::TooLate);
-    }
+    let end = end_within_limit(total, voices.as_slice())?;
     let changes = changes_along(alloc, fields, turns, first)?;
     let programs = voices_programs(alloc, fields, turns, first, count)?;
     let title = Sequence::from_slice(alloc, title_of(fields))?;

@@ -3,9 +3,11 @@
 use crate::report::{call, done};
 use abc_bars::BarFold;
 use abc_bars_body::Entry;
-use abc_bars_items::Items;
+use abc_bars_items::{Item, Items};
 use abc_fold::{Fold, Work};
+use abc_play_places::givers_of;
 use abc_scan::{Cell, scan};
+use abc_time::Grains;
 use std::alloc::{AllocError, Global};
 use std::rt::Runtime;
 
@@ -76,4 +78,22 @@ pub fn bar_of_music<R: Runtime>(rt: &R, alloc: Global) -> Result<bool, AllocErro
 pub fn third_voice<R: Runtime>(rt: &R, alloc: Global) -> Result<bool, AllocError> {
     let items = items_of(rt, alloc, "BarFold::step, another voice", b"V:3")?;
     Ok(items.items().len() == 1 && items.faults().is_empty())
+}
+
+/// A rest of a grain.
+fn rest() -> Item {
+    Item::Rest {
+        length: Grains(1),
+        bar: false,
+    }
+}
+
+/// The tokens that give two rests, with a part between them, which has no place.
+pub fn givers<R: Runtime>(rt: &R, alloc: Global) -> Result<bool, AllocError> {
+    let cell = cell(alloc, b"z z", &mut Work::mint(rt))?;
+    let items = [rest(), Item::Section(b'A'), rest()];
+    call(rt, "givers_of");
+    let givers = givers_of(alloc, cell.tokens(), &items)?;
+    done(rt);
+    Ok(givers.as_slice() == [Some(0), None, Some(2)].as_slice())
 }

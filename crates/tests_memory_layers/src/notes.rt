@@ -9,6 +9,7 @@ use abc_bars_voice::{
     Accidentals, TiedNote, TuneMeter, UnitLength, VoiceShift, VoiceState, begin_tuplet,
 };
 use abc_fields::NATURAL;
+use abc_play_places::tone_parts_of;
 use abc_scan::{
     Accidental, Chord, ChordPartKind, Letter, Note, Reach, Spanned, Tuplet, WrittenLength,
 };
@@ -239,6 +240,20 @@ pub fn silent_chord(rt: &impl Runtime, alloc: Global) -> Result<bool, AllocError
         player.is_before((0, 0)),
         player.is_before((0, 2))
     )
+}
+
+/// The parts of a chord that give its tones: two notes with a tie between them.
+pub fn tone_parts(rt: &impl Runtime, alloc: Global) -> Result<bool, AllocError> {
+    let kinds = [
+        ChordPartKind::Note(sharp(NEXT)),
+        ChordPartKind::Tie,
+        ChordPartKind::Note(sharp(HIGH)),
+    ];
+    let chord = chord_of(alloc, &kinds)?;
+    call(rt, "tone_parts_of");
+    let parts = tone_parts_of(alloc, chord.parts.as_slice())?;
+    done(rt);
+    Ok(parts.as_slice() == [0, 2].as_slice())
 }
 
 /// A rest, whose length is a fault.

@@ -1,7 +1,11 @@
 //! The play of a section, and the order of the sections.
 
 use crate::report::{call, done};
+use abc_bars_items::Item;
 use abc_repeat::{Mark, OrderFault, RepeatFault, expand, expand_within, play_order};
+use abc_scan::BarLine;
+use abc_time::Grains;
+use abc_voices_sections::{Section, played_steps};
 use std::alloc::{AllocError, Global};
 use std::rt::Runtime;
 
@@ -54,4 +58,49 @@ pub fn order(rt: &impl Runtime, alloc: Global) -> Result<bool, AllocError> {
     let order = sections(alloc, b"ABC")?;
     done(rt);
     Ok(order.as_slice() == [0, 1, 2, 3].as_slice())
+}
+
+/// A bar line with these colons.
+fn bar(closes: u32, opens: u32) -> Item {
+    Item::Bar(BarLine {
+        closes,
+        opens,
+        double: false,
+    })
+}
+
+/// Whether a voice plays so many steps of a section of these items.
+fn are_played(alloc: Global, items: &[&Item], count: usize) -> Result<bool, AllocError> {
+    let section = Section { voice: b"", items };
+    match played_steps(alloc, &section, b"", 10) {
+        Ok(steps) => Ok(steps.len() == count),
+        Err(RepeatFault::TooLong) => Ok(false),
+        Err(RepeatFault::OutOfMemory) => Err(AllocError),
+    }
+}
+
+/// A rest of a grain.
+fn rest() -> Item {
+    Item::Rest {
+        length: Grains(1),
+        bar: false,
+    }
+}
+
+/// A rest that is played once.
+pub fn step(rt: &impl Runtime, alloc: Global) -> Result<bool, AllocError> {
+    let rest = rest();
+    call(rt, "played_steps");
+    let is_right = are_played(alloc, &[&rest], 1)?;
+    done(rt);
+    Ok(is_right)
+}
+
+/// A rest that is repeated.
+pub fn repeated_step(rt: &impl Runtime, alloc: Global) -> Result<bool, AllocError> {
+    let (begin, rest, end) = (bar(0, 1), rest(), bar(1, 0));
+    call(rt, "played_steps, a repeat");
+    let is_right = are_played(alloc, &[&begin, &rest, &end], 2)?;
+    done(rt);
+    Ok(is_right)
 }

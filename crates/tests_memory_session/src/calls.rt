@@ -1,6 +1,6 @@
 //! The calls of this crate that are tried.
 
-use crate::{answers, books, chains, lines, outputs, plays, sessions, tunes};
+use crate::{answers, books, chains, lines, outputs, plays, sessions, tunes, voices};
 use std::alloc::{AllocError, Global};
 use std::rt::Runtime;
 use tests_memory_layers::Trial;
@@ -34,6 +34,8 @@ pub enum Call {
     EmptySession,
     PreparedEdit,
     PlayedNumber,
+    NamesOfVoices,
+    EntriesOfSteps,
     LinesOfText,
     LineTokens,
     SessionTokens,
@@ -44,7 +46,7 @@ pub enum Call {
 }
 
 /// All of them.
-pub const CALLS: [Call; 34] = [
+pub const CALLS: [Call; 36] = [
     Call::RoomForPieces,
     Call::Piece,
     Call::FollowingPiece,
@@ -72,6 +74,8 @@ pub const CALLS: [Call; 34] = [
     Call::EmptySession,
     Call::PreparedEdit,
     Call::PlayedNumber,
+    Call::NamesOfVoices,
+    Call::EntriesOfSteps,
     Call::LinesOfText,
     Call::LineTokens,
     Call::SessionTokens,
@@ -111,6 +115,8 @@ impl Trial for Call {
             Call::EmptySession => sessions::empty_session(rt, alloc),
             Call::PreparedEdit => sessions::prepared_edit(rt, alloc),
             Call::PlayedNumber => plays::played_number(rt, alloc),
+            Call::NamesOfVoices => voices::names_of_voices(rt, alloc),
+            Call::EntriesOfSteps => voices::entries_of_steps(rt, alloc),
             Call::LinesOfText => lines::lines_in_text(rt, alloc),
             Call::LineTokens => lines::tokens_of_line(rt, alloc),
             Call::SessionTokens => lines::tokens_in_session(rt, alloc),

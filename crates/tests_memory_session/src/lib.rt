@@ -11,5 +11,6 @@ mod outputs;
 mod plays;
 mod sessions;
 mod tunes;
+mod voices;
 
 pub use calls::{CALLS, Call};

@@ -1,6 +1,7 @@
-use Rattle.std.proofs.Common.{◌≡◌, Err, ap, sym, subst, ◌∙◌}
+use Rattle.std.proofs.Common.{◌≡◌, Err, ap, sym, subst, ⊎_elim, ◌∙◌}
 use Rattle.std.specs.List.{list_any}
 use Rattle.abc_voices_sections.specs.Items.{items_of}
+use Rattle.abc_voices.specs.declared.arranged.BuildFault.TheVariants.{TooLong}
 use Rattle.abc_voices.specs.Layout.{score_of, is_uneven, played_sections}
 use Rattle.abc_voices_score.specs.Limits.{IsWithinLimits}
 use Rattle.abc_voices.specs.TooLong.{of_places, of_time}
@@ -34,10 +35,15 @@ returns-else-are_voices_and_title_within-clause-too_long c = λ other e.
     let score : c.in-Ok.score ≡ score_of (items_of c.args.tune.now) = cc (c.in-Ok.ensures.score) in
     is_too_long-many (items_of c.args.tune.now) c.in-Ok.score score (sym c.are_voices_and_title_within.ensures ∙ c.if-are_voices_and_title_within.false)
 
-pub returns-in-Err-TooMany-clause-too_long : goal.returns-in-Err-TooMany-clause-too_long
-returns-in-Err-TooMany-clause-too_long c = λ other e.
-    is_too_long-by (items_of c.args.tune.now) (of_places (c.in-Err-TooMany.ensures.too_many (ap Err c.in-Err-TooMany.field-0-is)))
+pub returns-in-Err-clause-too_long : goal.returns-in-Err-clause-too_long
+returns-in-Err-clause-too_long c = λ other e.
+    let same : c.fault_of.result ≡ TooLong other = cc in
+    ⊎_elim
+    (λ many. is_too_long-by (items_of c.args.tune.now) (of_places (c.in-Err.ensures.too_many (ap Err many))))
+    (λ late. is_too_long-by (items_of c.args.tune.now) (of_time (c.in-Err.ensures.too_late (ap Err late))))
+    (c.fault_of.ensures.too_long other same)
 
-pub returns-in-Err-TooLate-clause-too_long : goal.returns-in-Err-TooLate-clause-too_long
-returns-in-Err-TooLate-clause-too_long c = λ other e.
-    is_too_long-by (items_of c.args.tune.now) (of_time (c.in-Err-TooLate.ensures.too_late (ap Err c.in-Err-TooLate.field-0-is)))
+pub returns-in-Err-clause-unknown : goal.returns-in-Err-clause-unknown
+returns-in-Err-clause-unknown c = λ other e.
+    let same : c.fault_of.result ≡ TooLong other = cc in
+    c.fault_of.ensures.unknown other same

@@ -54,3 +54,7 @@ returns-in-Err-clause-too_late c = λ e.
 
 pub score_along-requires-clause-total : goal.score_along-requires-clause-total
 score_along-requires-clause-total c = c.in-Some.ensures.0 ∙ length_along-items c.args.turns.now
+
+pub returns-in-Err-clause-memory : goal.returns-in-Err-clause-memory
+returns-in-Err-clause-memory c = λ _.
+    subst (λ (n : ℕ). n ≤ grains_of_the_latest_end) (c.in-Some.ensures.0 ∙ length_along-items c.args.turns.now) c.in-Some.ensures.1
