@@ -14,8 +14,8 @@ from file_server import FileServer
 AT_ONCE = 50  # conversations in one call of the driver
 SLOW_TUNE = "X:1\nL:1/1\nQ:1/4=4\nK:C\nC -\u00e9"  # its note sounds for a minute
 SLOW_SPANS = ["X:1 NumberField", "L:1/1 OtherField", "Q:1/4=4 OtherField", "K:C KeyField", "C Note", "  Blank", "- Tie fault", "\u00e9 BadByte fault"]
-# On a machine without a loudspeaker the clock of sound does not run. This one goes on whenever it is read, as it may between any two looks.
-CLOCK = "let clock = 0; Object.defineProperty(AudioContext.prototype, 'currentTime', { get: () => (clock += 0.06) });"
+# On a machine without a loudspeaker the clock of sound does not run.
+CLOCK = "Object.defineProperty(AudioContext.prototype, 'currentTime', { get: () => performance.now() / 1000 });"
 SPANS = "return [...document.querySelectorAll('#colours span')].map((one) => `${one.textContent} ${one.className}`);"
 MEMORY = """
 const { Engine, Session } = await import("/package/index.js");

@@ -12,7 +12,7 @@ use Rattle.abc_fields.specs.Shift.{no_shift}
 use Rattle.abc_bars_header.specs.Header.{declare, declare_at, with_shift_at, with_shift_of, merge_shift}
 use Rattle.abc_bars_header.specs.HeaderLine.{HeaderLine}
 use Rattle.abc_bars_header.specs.Voices.{place_of, with_voice_at}
-use Rattle.abc_text.specs.declared.limits.TheConstants.{MOST_VOICES}
+use Rattle.abc_limits.specs.declared.limits.TheConstants.{MOST_VOICES}
 use Rattle.abc_bars.specs.LookBack.Header.{declared_names, declared_shift, last_part, part_said, voice_on, voices_at, with_name, with_named}
 use Rattle.abc_bars.proofs.Names.{list_any-at, bytes_eq-differs, distinct_on, voice_at-each_with, each_with, few_on, with_name-full, keys_of-each_with, with_name-known, length_each, mentioned_name, slice_get-name_there, with_name-new, each_with-others}
 use Rattle.abc_bars.proofs.Names.{each_with-push, each_with-set, list_any-apart, still_room, list_any-unplaced}

@@ -16,7 +16,7 @@ use Rattle.abc_bars_header.specs.HeaderLine.{HeaderLine, FieldLine, DirectiveLin
 use Rattle.abc_bars.specs.LookBack.Header.{declared_names, declared_shift, header_at, named_in, part_said, voice_said, voices_at, with_named}
 use Rattle.abc_bars_header.specs.Reference.{reference_of}
 use Rattle.abc_bars_header.specs.Voices.{place_of}
-use Rattle.abc_text.specs.declared.limits.TheConstants.{MOST_VOICES}
+use Rattle.abc_limits.specs.declared.limits.TheConstants.{MOST_VOICES}
 use Rattle.abc_bars_header.specs.declared.defaults.Defaults.{Defaults}
 use Rattle.abc_bars_header.specs.declared.field_kind.FieldKind.{FieldKind}
 use Rattle.abc_bars_header.specs.declared.field_kind.FieldKind.TheVariants as kinds

@@ -15,7 +15,7 @@ use Rattle.std.proofs.lemmas.Option.{slice_get_read}
 use Rattle.std.proofs.lemmas.Slice.Eq.{bytes_eq-Decides}
 use Rattle.abc_bars_header.proofs.NamePlaces.{find_place, place_following, place_here}
 use Rattle.abc_bars_header.specs.Voices.{voice_at, with_voice_at}
-use Rattle.abc_text.specs.declared.limits.TheConstants.{MOST_VOICES}
+use Rattle.abc_limits.specs.declared.limits.TheConstants.{MOST_VOICES}
 use Rattle.abc_bars.specs.LookBack.Header.{with_name}
 
 -- Whether a name is among others.

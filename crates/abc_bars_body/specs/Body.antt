@@ -4,7 +4,7 @@ use Rattle.abc_fields.specs.declared.shift.Shift.{Shift}
 use Rattle.abc_bars_body.specs.declared.body.Body.{Body}
 use Rattle.abc_bars_body.specs.declared.body.Current.{Current}
 use Rattle.abc_bars_body.specs.declared.body.Current.TheVariants.{Unnamed, At}
-use Rattle.abc_text.specs.declared.limits.TheConstants.{MOST_VOICES}
+use Rattle.abc_limits.specs.declared.limits.TheConstants.{MOST_VOICES}
 use Rattle.abc_bars_voice.specs.declared.voice_state.VoiceState.{VoiceState}
 use Rattle.abc_bars_voice.specs.VoiceState.{without_accidentals}
 use Rattle.abc_bars_voice.specs.VoiceShift.{with_properties}

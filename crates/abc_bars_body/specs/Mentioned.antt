@@ -7,7 +7,7 @@ use Rattle.abc_bars_body.specs.declared.entry.Entry.TheVariants as entries
 use Rattle.abc_fold.specs.Steps.{items_from}
 use Rattle.abc_bars_items.specs.declared.item.Item.{Item}
 use Rattle.abc_bars_items.specs.declared.item.Item.TheVariants as items
-use Rattle.abc_text.specs.declared.limits.TheConstants.{MOST_VOICES}
+use Rattle.abc_limits.specs.declared.limits.TheConstants.{MOST_VOICES}
 use Rattle.abc_scan.specs.declared.spanned.Spanned.{Spanned}
 use Rattle.abc_scan.specs.declared.token.TokenKind.{TokenKind}
 

@@ -27,7 +27,7 @@ use Rattle.abc_bars_header.specs.declared.header.Header.{Header}
 use Rattle.abc_bars_header.specs.declared.header.HeaderResult.{HeaderResult}
 use Rattle.abc_bars_header.specs.declared.header.OwnResult.{OwnResult}
 use Rattle.abc_bars_items.specs.Program.{program_of}
-use Rattle.abc_text.specs.declared.limits.TheConstants.{MOST_VOICES}
+use Rattle.abc_limits.specs.declared.limits.TheConstants.{MOST_VOICES}
 use Rattle.abc_bars_items.specs.declared.item.Item.{Item}
 use Rattle.abc_bars_items.specs.declared.item.Item.TheVariants as items
 

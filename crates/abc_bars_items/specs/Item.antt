@@ -10,7 +10,7 @@ use Rattle.abc_time.specs.Grains.{grains_of_the_longest_length}
 use Rattle.abc_time.specs.Tempo.{FitsInTempoEvent}
 use Rattle.abc_bars_items.specs.declared.item.Item.{Item}
 use Rattle.abc_bars_items.specs.declared.item.Item.TheVariants as items
-use Rattle.abc_text.specs.declared.limits.TheConstants.{HIGHEST_KEY, MOST_CHORD_NOTES}
+use Rattle.abc_limits.specs.declared.limits.TheConstants.{HIGHEST_KEY, MOST_CHORD_NOTES}
 use Rattle.abc_bars_items.specs.declared.item.Tone.{Tone}
 use Rattle.abc_bars_items.specs.declared.program.TheConstants.{HIGHEST_PROGRAM}
 use Rattle.abc_bars_items.specs.Velocity.{IsVelocity}

@@ -11,7 +11,7 @@ mod program;
 mod tones;
 mod velocity;
 
-pub use abc_text::{HIGHEST_KEY, MOST_CHORD_NOTES, MOST_VOICES};
+pub use abc_limits::{HIGHEST_KEY, MOST_CHORD_NOTES, MOST_VOICES};
 pub use column::{FIRST_COLUMN, column_inside, column_of};
 pub use item::{Item, LocalFault, Tone};
 pub use item_text::ItemText;

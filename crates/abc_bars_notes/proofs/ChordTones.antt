@@ -9,7 +9,7 @@ use Rattle.abc_scan.specs.declared.chord_part.ChordPartKind.{ChordPartKind}
 use Rattle.abc_scan.specs.declared.chord_part.ChordPartKind.TheVariants as kinds
 use Rattle.abc_scan.specs.declared.spanned.Spanned.{Spanned}
 use Rattle.abc_time.specs.declared.ratio.Ratio.{Ratio}
-use Rattle.abc_text.specs.declared.limits.TheConstants.{MOST_CHORD_NOTES}
+use Rattle.abc_limits.specs.declared.limits.TheConstants.{MOST_CHORD_NOTES}
 use Rattle.abc_bars_items.specs.declared.item.Tone.{Tone}
 use Rattle.abc_bars_voice.specs.declared.accidentals.Accidentals.{Accidentals}
 use Rattle.abc_bars_voice.specs.declared.voice_state.VoiceState.{VoiceState}

@@ -3,7 +3,7 @@ use Rattle.std.specs.Prelude.{ℕ, ℤ, pos, negsuc, ◌+ℤ◌, ◌*ℤ◌, ◌
 use Rattle.std.specs.Ordering.{int_eq}
 use Rattle.abc_text.specs.Letter.{semitones}
 use Rattle.abc_scan.specs.declared.note.Note.{Note}
-use Rattle.abc_text.specs.declared.limits.TheConstants.{HIGHEST_KEY}
+use Rattle.abc_limits.specs.declared.limits.TheConstants.{HIGHEST_KEY}
 use Rattle.abc_bars_notes.specs.declared.pitch.TheConstants.{MIDDLE_C, OCTAVE}
 use Rattle.abc_bars_voice.specs.declared.voice_shift.VoiceShift.{VoiceShift}
 

@@ -1,6 +1,6 @@
 -- Grace notes. ABC 2.1 section 4.12.
 use Rattle.std.specs.Prelude.{◌≤◌, All, IfSome, List, length}
-use Rattle.abc_text.specs.declared.limits.TheConstants.{HIGHEST_KEY}
+use Rattle.abc_limits.specs.declared.limits.TheConstants.{HIGHEST_KEY}
 use Rattle.abc_bars_items.specs.Item.{IsWithinLongest}
 use Rattle.abc_marks.specs.declared.grace_note.GraceNote.{GraceNote}
 use Rattle.abc_marks.specs.declared.grace_note.TheConstants.{MOST_GRACE_NOTES}

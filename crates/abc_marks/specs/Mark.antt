@@ -1,6 +1,6 @@
 -- The marks of cells, and what marks can hold.
 use Rattle.std.specs.Prelude.{◌≤◌, IfSome}
-use Rattle.abc_text.specs.declared.limits.TheConstants.{HIGHEST_KEY}
+use Rattle.abc_limits.specs.declared.limits.TheConstants.{HIGHEST_KEY}
 use Rattle.abc_bars_items.specs.Velocity.{IsVelocity}
 use Rattle.abc_marks.specs.declared.mark.Mark.{Mark}
 use Rattle.abc_marks.specs.declared.mark.MarkKind.{MarkKind}

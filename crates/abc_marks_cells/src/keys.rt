@@ -1,7 +1,7 @@
 //! The keys of notes that no tie reaches.
 
 ghost use Rattle.std.specs.Prelude.{◌≡◌, ◌≤◌, IfSome};
-ghost use Rattle.abc_text.specs.declared.limits.TheConstants.{HIGHEST_KEY};
+ghost use Rattle.abc_limits.specs.declared.limits.TheConstants.{HIGHEST_KEY};
 ghost use Rattle.abc_marks_cells.specs.Keys.{untied_alteration, untied_key};
 
 use abc_bars_notes::key_of;

@@ -1,7 +1,7 @@
 //! The notes one letter higher and lower than a note.
 
 ghost use Rattle.std.specs.Prelude.{◌≡◌, ◌≤◌, IfSome};
-ghost use Rattle.abc_text.specs.declared.limits.TheConstants.{HIGHEST_KEY};
+ghost use Rattle.abc_limits.specs.declared.limits.TheConstants.{HIGHEST_KEY};
 ghost use Rattle.abc_marks_cells.specs.Neighbour.{key_above, key_below, letter_above, letter_below, note_above, note_below, octave_above, octave_below};
 
 use crate::keys::untied_key;

@@ -2,7 +2,7 @@
 use Rattle.std.proofs.Common.{◌≡◌, ℕ, ◌+◌, ◌≤◌, nat_le, if◌then◌else◌, Bool, true, false, Option, Some, None, List, [], ◌∷◌, length, All, refl, arith, leb-true, length-append, lit≤}
 use Rattle.std.proofs.lemmas.List.Elements.{All-append, All-cons, All-nil}
 use Rattle.std.specs.Prelude.{ℤ, pos, negsuc, ◌+ℤ◌, option_to_list, slice_get}
-use Rattle.abc_text.specs.declared.limits.TheConstants.{HIGHEST_KEY}
+use Rattle.abc_limits.specs.declared.limits.TheConstants.{HIGHEST_KEY}
 use Rattle.abc_marks.specs.ChordName.{half_tones}
 use Rattle.abc_marks.specs.declared.chord_name.ChordKind.{ChordKind}
 use Rattle.abc_marks.specs.declared.chord_name.ChordKind.TheVariants as kinds

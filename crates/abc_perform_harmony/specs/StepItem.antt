@@ -1,6 +1,6 @@
 -- A step of the accompaniment as an item.
 use Rattle.std.specs.Prelude.{ℕ, ◌-◌, ◌≤◌, false, if◌then◌else◌, Some, None, Option, All, List, [], ◌∷◌, length, map}
-use Rattle.abc_text.specs.declared.limits.TheConstants.{HIGHEST_KEY}
+use Rattle.abc_limits.specs.declared.limits.TheConstants.{HIGHEST_KEY}
 use Rattle.abc_time.specs.declared.grains.Grains.{Grains}
 use Rattle.abc_bars_items.specs.declared.item.Item.TheVariants as items
 use Rattle.abc_bars_items.specs.declared.item.Tone.{Tone}

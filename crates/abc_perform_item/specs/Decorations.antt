@@ -1,7 +1,7 @@
 -- What the marks before a note, chord or rest say of it. ABC 2.1 section 4.14.
 use Rattle.std.specs.Prelude.{ℕ, ◌≤◌, Bool, true, false, ◌==◌, if◌then◌else◌, List, [], ◌∷◌, Option, Some, None, IfSome, min, sum_by}
 use Rattle.std.specs.List.{list_any}
-use Rattle.abc_text.specs.declared.limits.TheConstants.{HIGHEST_KEY}
+use Rattle.abc_limits.specs.declared.limits.TheConstants.{HIGHEST_KEY}
 use Rattle.abc_bars_items.specs.declared.velocity.TheConstants.{HIGHEST_VELOCITY}
 use Rattle.abc_marks.specs.Decoration.{added_velocity, shortening_divisor}
 use Rattle.abc_marks.specs.declared.decoration.Shortening.{Shortening}

@@ -1,6 +1,6 @@
 -- Keys of MIDI that are moved.
 use Rattle.std.specs.Prelude.{ℕ, ℤ, pos, negsuc, ◌+ℤ◌, nat_le, if◌then◌else◌, Option, Some, None}
-use Rattle.abc_text.specs.declared.limits.TheConstants.{HIGHEST_KEY}
+use Rattle.abc_limits.specs.declared.limits.TheConstants.{HIGHEST_KEY}
 
 -- A key of MIDI, from 0 to 127 (MIDI 1.0), if a number is one.
 abbrev pub key_within : ℤ → Option ℕ

@@ -1,6 +1,6 @@
 -- The parts into which an ornament splits a note.
 use Rattle.std.specs.Prelude.{ℕ, ◌-◌, ◌≤◌, List, [], ◌∷◌, ◌++◌, sum_by}
-use Rattle.abc_text.specs.declared.limits.TheConstants.{HIGHEST_KEY}
+use Rattle.abc_limits.specs.declared.limits.TheConstants.{HIGHEST_KEY}
 use Rattle.abc_perform_note.specs.declared.part.Part.{Part}
 
 -- A key that sounds for some grains. Not in ABC 2.1.

@@ -3,7 +3,7 @@
 ghost use Rattle.std.specs.Prelude.{◌≡◌, ◌≤◌, IfSome};
 ghost use Rattle.abc_perform_note.specs.Key.{transposed_key};
 
-use abc_text::HIGHEST_KEY;
+use abc_limits::HIGHEST_KEY;
 
 /// Returns the key some semitones higher, or lower if `by` is negative, if MIDI has it.
 pub fn transposed_key(key: u8, by: i64) -> Option<u8>

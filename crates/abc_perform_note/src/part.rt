@@ -4,7 +4,8 @@ ghost use Rattle.std.specs.Prelude.{◌≡◌, ◌≤◌, All, IfOk};
 ghost use Rattle.abc_perform_note.specs.Part.{duration, with_rest, IsPartOf};
 ghost use Rattle.abc_perform_note.specs.Ornament.{TakesTime, EndsOn};
 
-use abc_text::{HIGHEST_KEY, Sequence};
+use abc_limits::HIGHEST_KEY;
+use abc_text::Sequence;
 use abc_time::Grains;
 use std::alloc::AllocError;
 

@@ -7,7 +7,8 @@ ghost use Rattle.abc_perform_note.specs.Ornament.{TakesTime, EndsOn};
 
 use crate::mordents::THIRTY_SECOND;
 use crate::part::{Part, with_rest};
-use abc_text::{HIGHEST_KEY, Sequence};
+use abc_limits::HIGHEST_KEY;
+use abc_text::Sequence;
 use abc_time::Grains;
 use std::alloc::{AllocError, Global};
 

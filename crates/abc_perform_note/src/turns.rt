@@ -6,7 +6,8 @@ ghost use Rattle.abc_perform_note.specs.Part.{IsPartOf};
 ghost use Rattle.abc_perform_note.specs.Ornament.{TakesTime, keys_of};
 
 use crate::part::{Part, with_rest};
-use abc_text::{HIGHEST_KEY, Sequence};
+use abc_limits::HIGHEST_KEY;
+use abc_text::Sequence;
 use abc_time::Grains;
 use std::alloc::{AllocError, Global};
 

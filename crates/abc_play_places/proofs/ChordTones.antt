@@ -14,7 +14,7 @@ use Rattle.abc_scan.specs.declared.chord_part.ChordPartKind.{ChordPartKind}
 use Rattle.abc_scan.specs.declared.chord_part.ChordPartKind.TheVariants as kinds
 use Rattle.abc_scan.specs.declared.note.Note.{Note}
 use Rattle.abc_scan.specs.declared.spanned.Spanned.{Spanned}
-use Rattle.abc_text.specs.declared.limits.TheConstants.{MOST_CHORD_NOTES}
+use Rattle.abc_limits.specs.declared.limits.TheConstants.{MOST_CHORD_NOTES}
 use Rattle.abc_time.specs.declared.ratio.Ratio.{Ratio}
 use Rattle.abc_play_places.specs.ToneGivers.{tone_parts, tone_givers, tone_givers_from}
 

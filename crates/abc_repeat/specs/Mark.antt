@@ -1,7 +1,7 @@
 -- The marks of a voice in a section. ABC 2.1 sections 4.8 and 4.9.
 use Rattle.std.specs.Prelude.{ℕ, zero, suc, ◌+◌, ◌-◌, ◌==◌, Bool, true, false, not, ◌&&◌, ◌||◌, nat_lt, nat_le, if◌then◌else◌}
 use Rattle.std.specs.Int.{bit_at}
-use Rattle.abc_text.specs.declared.limits.TheConstants.{LAST_PASS}
+use Rattle.abc_limits.specs.declared.limits.TheConstants.{LAST_PASS}
 use Rattle.abc_repeat.specs.declared.mark.Mark.{Mark}
 use Rattle.abc_repeat.specs.declared.mark.Mark.TheVariants as marks
 

@@ -4,7 +4,7 @@ ghost use Rattle.std.specs.Prelude.{◌≡◌, ◌-◌, ◌^◌, ◌<◌, min};
 ghost use Rattle.abc_repeat.specs.Mark.{is_play, is_ending, is_single, opens_next, closes_common, closes_ending, has_number};
 ghost use Rattle.abc_repeat.specs.Mark.{greatest_number, passes_of, is_for};
 
-use abc_text::LAST_PASS;
+use abc_limits::LAST_PASS;
 
 /// A mark of one voice in one section (ABC 2.1 sections 4.8 to 4.10).
 #[derive(Clone, Copy, Debug, PartialEq, Eq)]

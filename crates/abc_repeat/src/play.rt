@@ -9,7 +9,7 @@ use crate::mark::Mark;
 use crate::pass::{most_passes, run_start};
 use crate::size::room_for;
 use crate::strain::{first_strain, opens_after, up_to_ending};
-use abc_text::LAST_PASS;
+use abc_limits::LAST_PASS;
 use std::alloc::{AllocError, Global};
 
 /// The greatest number of places that are played. Not in ABC 2.1.

@@ -1,7 +1,7 @@
 //! The number of places of a play, counted without an allocation.
 
 ghost use Rattle.std.specs.Prelude.{◌≡◌, ◌<◌, ◌≤◌, ◌-◌, ◌^◌, length, min};
-ghost use Rattle.abc_text.specs.declared.limits.TheConstants.{LAST_PASS};
+ghost use Rattle.abc_limits.specs.declared.limits.TheConstants.{LAST_PASS};
 ghost use Rattle.abc_repeat.specs.declared.play.TheConstants.{MOST_PLACES};
 ghost use Rattle.abc_repeat.specs.Play.{endings_size, strain_play, play_of};
 ghost use Rattle.abc_repeat.specs.Strain.{strain_of};
@@ -9,7 +9,7 @@ ghost use Rattle.abc_repeat.specs.Strain.{strain_of};
 use crate::mark::Mark;
 use crate::pass::{count_played, most_passes, run_start};
 use crate::strain::{first_strain, opens_after, up_to_ending};
-use abc_text::LAST_PASS;
+use abc_limits::LAST_PASS;
 
 /// Returns the number of places that the endings of a strain play in this number of passes, at most 2^64 - 1.
 fn endings_size(text: &[Mark], passes: u64) -> u64

@@ -5,7 +5,7 @@ use Rattle.std.specs.Int.{bit_at}
 use Rattle.std.specs.Option.{option_map}
 use Rattle.abc_text.specs.Number.{IsNumber}
 use Rattle.abc_scan.specs.declared.ending.PassRange.{PassRange}
-use Rattle.abc_text.specs.declared.limits.TheConstants.{LAST_PASS}
+use Rattle.abc_limits.specs.declared.limits.TheConstants.{LAST_PASS}
 use Rattle.abc_scan.specs.Byte.{minus_sign, comma, opening_bracket}
 use Rattle.abc_scan.specs.Front.{after_byte}
 use Rattle.abc_scan.specs.Number.{number_at}

@@ -5,7 +5,7 @@ ghost use Rattle.abc_scan.specs.Front.{IsFront};
 ghost use Rattle.abc_scan.specs.Ending.{is_accepted, range_bits, with_range, last_at, range_at, next_range, passes_at, ending_at};
 
 use crate::number::number_at;
-use abc_text::LAST_PASS;
+use abc_limits::LAST_PASS;
 
 /// Passes from the first to the last, as they are written.
 #[derive(Clone, Copy)]

@@ -1,6 +1,5 @@
 //! Bytes, words and lists for all crates above: blanks, digits and numbers, and the letters and accidentals of notes.
-//! Also two lists that contracts see as their elements, values with several owners, a snapshot of a value for contracts,
-//! and the limits that several crates share.
+//! Also two lists that contracts see as their elements, values with several owners, and a snapshot of a value for contracts.
 #![tactic(auto)]
 
 mod accidental;
@@ -8,7 +7,6 @@ mod blank;
 mod cut;
 mod digit;
 mod letter;
-mod limits;
 mod line_end;
 mod number;
 mod power;
@@ -23,7 +21,6 @@ pub use blank::{is_blank, trim_blanks, trim_end, trim_start};
 pub use cut::{cut_at, find_byte};
 pub use digit::{LARGEST_NUMBER, LONGEST_NUMBER, decimal, digits, is_digit};
 pub use letter::{Letter, letter_of};
-pub use limits::{HIGHEST_KEY, LAST_PASS, MOST_CHORD_NOTES, MOST_VOICES};
 pub use line_end::without_return;
 pub use number::number_of;
 pub use power::is_power_up_to;

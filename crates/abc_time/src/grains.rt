@@ -12,16 +12,16 @@ pub struct Grains(pub u64);
 pub const WHOLE_NOTE: Grains = Grains(929_901_772_800);
 
 /// A tick, of which a whole note has 1,920. Not in ABC 2.1.
-pub const TICK: Grains = Grains(484_323_840);
+pub(crate) const TICK: Grains = Grains(484_323_840);
 
 /// The longest that one note or rest may be: 1,024 whole notes. A longer one is `BadLength`. Not in ABC 2.1.
-pub const LONGEST_LENGTH: Grains = Grains(1_024 * WHOLE_NOTE.0);
+pub(crate) const LONGEST_LENGTH: Grains = Grains(1_024 * WHOLE_NOTE.0);
 
 /// The latest moment that a tune may reach: 131,072 whole notes. A tune that ends later is `TuneTooLong`. Not in ABC 2.1.
 pub const LATEST_END: Grains = Grains(131_072 * WHOLE_NOTE.0);
 
 /// The tick of `LATEST_END`.
-pub const LAST_TICK: u32 = 251_658_240;
+pub(crate) const LAST_TICK: u32 = 251_658_240;
 
 /// The tick that a moment falls on: ticks are rounded down, once, from the exact moment.
 pub fn tick_of(moment: Grains) -> u32

@@ -14,7 +14,7 @@ mod ratio_product;
 mod tempo;
 
 pub use abc_text::LARGEST_NUMBER;
-pub use grains::{Grains, LAST_TICK, LATEST_END, WHOLE_NOTE, tick_of};
+pub use grains::{Grains, LATEST_END, WHOLE_NOTE, tick_of};
 pub use lengths::{LengthFault, length};
 pub use ratio::Ratio;
 pub use tempo::quarter_micros;

@@ -7,7 +7,7 @@ use Rattle.std.proofs.lemmas.Bool.Decides.{Decides-like, Decides-ltb, Decides-or
 use Rattle.std.proofs.lemmas.List.{length-map}
 use Rattle.abc_bars_items.specs.Item.{IsItem}
 use Rattle.abc_bars_items.specs.declared.item.Item.{Item}
-use Rattle.abc_text.specs.declared.limits.TheConstants.{MOST_VOICES}
+use Rattle.abc_limits.specs.declared.limits.TheConstants.{MOST_VOICES}
 use Rattle.abc_repeat.specs.declared.order.TheConstants.{MOST_SECTIONS}
 use Rattle.abc_repeat.specs.declared.play.TheConstants.{MOST_PLACES}
 use Rattle.abc_time.specs.Grains.{grains_of_the_latest_end}

@@ -4,7 +4,7 @@ use Rattle.std.specs.Prelude.{map, filter_map, slice_get, sum_by, Option, None, 
 use Rattle.std.specs.List.{list_any, flat_map}
 use Rattle.abc_bars_items.specs.declared.item.Item.{Item}
 use Rattle.abc_bars_items.specs.declared.item.Item.TheVariants as items
-use Rattle.abc_text.specs.declared.limits.TheConstants.{MOST_VOICES}
+use Rattle.abc_limits.specs.declared.limits.TheConstants.{MOST_VOICES}
 use Rattle.abc_bars_items.specs.Item.{Items}
 use Rattle.abc_fields.specs.declared.meter.Meter.TheVariants as meters
 use Rattle.abc_repeat.specs.declared.order.TheConstants.{MOST_SECTIONS}

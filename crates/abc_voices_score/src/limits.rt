@@ -1,6 +1,6 @@
 //! The limits within which a file can hold a score.
 
-use abc_text::{HIGHEST_KEY, MOST_CHORD_NOTES, MOST_VOICES};
+use abc_limits::{HIGHEST_KEY, MOST_CHORD_NOTES, MOST_VOICES};
 
 /// The greatest number of bytes of a title.
 pub const LONGEST_TITLE: usize = 65_535;

@@ -1,7 +1,7 @@
 //! The events of a voice: its changes of program, its notes on and off.
 ghost use Rattle.std.specs.Prelude.{◌≡◌, ◌≤◌, ◌<◌, ◌++◌, [], ◌∷◌, length, map, All, IfOk, IsPermutation, OnOk};
 ghost use Rattle.abc_time.specs.Grains.{grains_of_the_latest_end};
-ghost use Rattle.abc_text.specs.declared.limits.TheConstants.{MOST_VOICES};
+ghost use Rattle.abc_limits.specs.declared.limits.TheConstants.{MOST_VOICES};
 ghost use Rattle.abc_voices_score.specs.Limits.{AreProgramsWithin, IsProgramWithin, IsSoundingWithin, IsVoiceWithin};
 ghost use Rattle.smf_bytes.specs.Voice.{all_of, change_of, ends_of};
 ghost use Rattle.smf_bytes.specs.Track.{channel_of};

@@ -37,7 +37,7 @@ use Rattle.abc_bars_header.specs.FieldKind.{kind_of}
 use Rattle.abc_bars_header.specs.declared.field_kind.FieldKind.{FieldKind}
 use Rattle.abc_bars_header.specs.declared.field_kind.FieldKind.TheVariants as fields
 use Rattle.abc_bars_items.specs.Column.{column_of}
-use Rattle.abc_text.specs.declared.limits.TheConstants.{MOST_VOICES}
+use Rattle.abc_limits.specs.declared.limits.TheConstants.{MOST_VOICES}
 use Rattle.abc_bars_voice.specs.declared.voice_state.VoiceState.{VoiceState}
 use Rattle.abc_bars_voice.specs.TempoItem.{is_out_of_range, tempo_item}
 use Rattle.abc_bars_body.specs.declared.body.Body.{Body}

@@ -32,7 +32,7 @@ use Rattle.abc_bars_header.specs.declared.field_kind.FieldKind.TheVariants as fi
 use Rattle.abc_bars_items.specs.Column.{column_of}
 use Rattle.abc_bars_items.specs.Program.{program_of}
 use Rattle.abc_bars_items.specs.declared.item.Item.{Item}
-use Rattle.abc_text.specs.declared.limits.TheConstants.{MOST_CHORD_NOTES}
+use Rattle.abc_limits.specs.declared.limits.TheConstants.{MOST_CHORD_NOTES}
 use Rattle.abc_bars_voice.specs.declared.voice_state.VoiceState.{VoiceState}
 use Rattle.abc_bars_voice.specs.TempoItem.{is_out_of_range, tempo_item}
 use Rattle.abc_bars_voice.specs.Tuplet.{OpenTuplet, tuplet_after_mark, tuplet_by}

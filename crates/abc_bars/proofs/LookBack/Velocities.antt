@@ -10,7 +10,7 @@ use Rattle.abc_scan.specs.declared.spanned.Spanned.{Spanned}
 use Rattle.abc_scan.specs.declared.token.TokenKind.TheVariants as kinds
 use Rattle.abc_time.specs.declared.ratio.Ratio.{Ratio}
 use Rattle.abc_bars_notes.specs.declared.chords.ChordContext.{ChordContext}
-use Rattle.abc_text.specs.declared.limits.TheConstants.{MOST_CHORD_NOTES}
+use Rattle.abc_limits.specs.declared.limits.TheConstants.{MOST_CHORD_NOTES}
 use Rattle.abc_bars_items.specs.declared.item.Tone.{Tone}
 use Rattle.abc_bars_voice.specs.declared.voice_state.VoiceState.{VoiceState}
 use Rattle.abc_bars_notes.specs.declared.sound.NoteContext.{NoteContext}

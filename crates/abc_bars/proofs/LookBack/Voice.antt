@@ -33,7 +33,7 @@ use Rattle.abc_bars_voice.specs.Accidentals.{no_accidentals, reach_of}
 use Rattle.abc_bars_voice.specs.Alteration.{alteration_of}
 use Rattle.abc_bars_notes.specs.declared.chords.ChordContext.{ChordContext}
 use Rattle.abc_bars_notes.specs.declared.sound.ChordBuilder.{ChordBuilder}
-use Rattle.abc_text.specs.declared.limits.TheConstants.{MOST_CHORD_NOTES}
+use Rattle.abc_limits.specs.declared.limits.TheConstants.{MOST_CHORD_NOTES}
 use Rattle.abc_bars_voice.specs.Tuplet.{OpenTuplet, count_down, begin_tuplet}
 use Rattle.abc_bars_notes.specs.Chords.{chord_builder_of, tie_follows}
 use Rattle.abc_bars_notes.specs.TimeTokens.{chord_by, play_chord, play_note, play_rest}

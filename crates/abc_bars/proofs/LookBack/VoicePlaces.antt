@@ -22,7 +22,7 @@ use Rattle.abc_bars_header.specs.HeaderLine.{HeaderLine, FieldLine, DirectiveLin
 use Rattle.abc_scan.specs.declared.field.Field.{Field}
 use Rattle.abc_scan.specs.declared.token.TokenKind.{TokenKind}
 use Rattle.abc_scan.specs.declared.token.TokenKind.TheVariants as kinds
-use Rattle.abc_text.specs.declared.limits.TheConstants.{MOST_VOICES}
+use Rattle.abc_limits.specs.declared.limits.TheConstants.{MOST_VOICES}
 use Rattle.abc_bars_body.specs.declared.body.Body.{Body}
 use Rattle.abc_bars_body.specs.BodyFields.{part_of}
 use Rattle.abc_bars_body.proofs.BodyOpenings.{opening_names}

@@ -20,7 +20,7 @@ use Rattle.abc_scan.specs.declared.token.TokenKind.TheVariants as kinds
 use Rattle.abc_bars_header.specs.HeaderLine.{HeaderLine}
 use Rattle.abc_bars_header.specs.declared.defaults.Defaults.{Defaults}
 use Rattle.abc_bars_items.specs.Column.{column_of}
-use Rattle.abc_text.specs.declared.limits.TheConstants.{MOST_CHORD_NOTES}
+use Rattle.abc_limits.specs.declared.limits.TheConstants.{MOST_CHORD_NOTES}
 use Rattle.abc_bars_voice.specs.Tuplet.{OpenTuplet, tuplet_by}
 use Rattle.abc_bars_notes.specs.Acting.{Acts}
 use Rattle.abc_bars_notes.specs.ChordNotes.{notes_of}

@@ -29,7 +29,7 @@ use Rattle.abc_time.specs.declared.ratio.Ratio.{Ratio}
 use Rattle.abc_bars_voice.specs.declared.accidentals.Accidentals.{Accidentals}
 use Rattle.abc_bars_header.specs.declared.field_kind.FieldKind.{FieldKind}
 use Rattle.abc_bars_header.specs.declared.field_kind.FieldKind.TheVariants as fields
-use Rattle.abc_text.specs.declared.limits.TheConstants.{MOST_CHORD_NOTES}
+use Rattle.abc_limits.specs.declared.limits.TheConstants.{MOST_CHORD_NOTES}
 use Rattle.abc_bars_voice.specs.declared.voice_state.VoiceState.{VoiceState}
 use Rattle.abc_bars_voice.specs.declared.tied_note.TiedNote.{TiedNote}
 use Rattle.abc_bars_voice.specs.declared.voice_shift.VoiceShift.{VoiceShift}

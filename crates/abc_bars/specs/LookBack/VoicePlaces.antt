@@ -4,7 +4,7 @@ use Rattle.std.specs.Prelude.{◌≡◌, ◌≢◌, ◌<◌, ◌≤◌, ◌⊎�
 use Rattle.std.specs.List.{Contains}
 use Rattle.abc_fields.specs.declared.key.Key.{Key}
 use Rattle.abc_scan.specs.declared.token.TokenKind.{TokenKind}
-use Rattle.abc_text.specs.declared.limits.TheConstants.{MOST_VOICES}
+use Rattle.abc_limits.specs.declared.limits.TheConstants.{MOST_VOICES}
 use Rattle.abc_bars_header.specs.declared.defaults.Defaults.{Defaults}
 use Rattle.abc_bars_header.specs.HeaderLine.{HeaderLine, FieldLine, DirectiveLine}
 use Rattle.abc_bars_header.specs.Voices.{voice_at}

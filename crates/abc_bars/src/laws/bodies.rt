@@ -2,7 +2,7 @@
 
 ghost use Rattle.std.specs.Prelude.{◌≤◌, bytes_eq, length};
 ghost use Rattle.std.specs.List.{IsDistinct};
-ghost use Rattle.abc_text.specs.declared.limits.TheConstants.{MOST_VOICES};
+ghost use Rattle.abc_limits.specs.declared.limits.TheConstants.{MOST_VOICES};
 ghost use Rattle.abc_bars.specs.LookBack.BodyState.{IsPlaced, voice_list_of};
 ghost use Rattle.abc_bars.specs.LookBack.Place.{AtEachPlace};
 

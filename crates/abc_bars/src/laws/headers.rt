@@ -7,7 +7,7 @@ ghost use Rattle.abc_fields.specs.declared.key.Key.{Key};
 ghost use Rattle.abc_bars_header.specs.declared.defaults.Defaults.{Defaults};
 ghost use Rattle.abc_bars_body.specs.declared.entry.Entry.TheVariants as entries;
 ghost use Rattle.abc_bars_header.specs.declared.header.Header.{Header};
-ghost use Rattle.abc_text.specs.declared.limits.TheConstants.{MOST_VOICES};
+ghost use Rattle.abc_limits.specs.declared.limits.TheConstants.{MOST_VOICES};
 ghost use Rattle.abc_bars_body.specs.BodyOpening.{body_from};
 ghost use Rattle.abc_bars_header.specs.Defaults.{no_defaults};
 ghost use Rattle.abc_bars_header.specs.FileHeader.{file_header_result};
