@@ -1,5 +1,5 @@
 -- A tune, from what its cells give to the bytes of its file.
-use Rattle.std.specs.Prelude.{ℕ, Bool, not, ◌&&◌, if◌then◌else◌, List, Option, Some, None}
+use Rattle.std.specs.Prelude.{ℕ, Bool, true, false, not, ◌&&◌, if◌then◌else◌, List, Option, Some, None}
 use Rattle.abc_bars_items.specs.declared.item.Item.{Item}
 use Rattle.abc_bars_items.specs.Item.{Items}
 use Rattle.abc_fields.specs.declared.fault_code.FaultCode.{FaultCode}
@@ -20,6 +20,12 @@ unfoldable pub build_faults_of : List Items → List FaultCode
 build_faults_of cells =
     let tune = items_in cells in
     faults_with tune (names_unknown_part tune) (has_uneven_voices tune) (is_too_long tune)
+
+-- The faults of a tune that is too long whatever its items are, of what its cells give.
+unfoldable pub faults_too_long : List Items → List FaultCode
+faults_too_long cells =
+    let tune = items_in cells in
+    faults_with tune (names_unknown_part tune) false true
 
 -- The bytes of a tune's file, of what its cells give: that of its score. A tune that is too long has none.
 unfoldable pub bytes_of : List Items → Option (List ℕ)

@@ -3,7 +3,7 @@
 ghost use Rattle.std.specs.Prelude.{◌≡◌, true, false, Some, None, is_none, IfOk};
 ghost use Rattle.std.specs.List.{list_any};
 ghost use Rattle.abc_fold.specs.Work.{raised};
-ghost use Rattle.abc_tune.specs.Built.{bytes_of, build_faults_of};
+ghost use Rattle.abc_tune.specs.Built.{bytes_of, build_faults_of, faults_too_long};
 ghost use Rattle.abc_tune.specs.WholeFaults.{faults_with, is_too_long_fault, AreRisingFrom};
 ghost use Rattle.abc_voices.specs.Layout.{items_in};
 ghost use Rattle.abc_voices_score.specs.Limits.{IsWithinLimits};
@@ -65,6 +65,24 @@ pub fn build(alloc: Global, items: &[Items], work: &mut Work) -> Result<Built, A
     work.count_built();
     match arrange(alloc, items) {
         Ok(arranged) => with_file(alloc, items, &arranged),
+        Err(BuildFault::TooLong { unknown }) => without_file(alloc, items, unknown),
+        Err(BuildFault::OutOfMemory) => Err(AllocError),
+    }
+}
+
+/// Builds a tune that has no file, as it is too long to be performed, whatever its items are. A call that runs out of memory is
+/// counted too.
+#[tactic(auto, unfolding(crate::specs::Built::faults_too_long))]
+pub fn build_too_long(alloc: Global, items: &[Items], work: &mut Work) -> Result<Built, AllocError>
+    ensures bytes { IfOk result (λ built. built.bytes ≡ None) }
+    ensures faults { IfOk result (λ built. built.faults ≡ faults_too_long items.now) }
+    ensures long { IfOk result (λ built. list_any is_too_long_fault built.faults ≡ true) }
+    ensures rising { IfOk result (λ built. AreRisingFrom 0 built.faults) }
+    ensures counted { work.new ≡ record work.old { built = raised work.old.built 1 } }
+{
+    work.count_built();
+    match arrange(alloc, items) {
+        Ok(arranged) => without_file(alloc, items, arranged.unknown),
         Err(BuildFault::TooLong { unknown }) => without_file(alloc, items, unknown),
         Err(BuildFault::OutOfMemory) => Err(AllocError),
     }

@@ -17,4 +17,4 @@ pub use abc_scan::{Cell, LineClass};
 pub use abc_text::Sequence;
 pub use abc_tune_compiler::{Built, Compiler};
 pub use abc_tune_memo::{TuneKey, TuneMemo, put_line};
-pub use built::build;
+pub use built::{build, build_too_long};

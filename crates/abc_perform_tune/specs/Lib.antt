@@ -1,0 +1,10 @@
+pub mod Front
+pub mod Header
+pub mod Limit
+pub mod Plain
+pub mod Plan
+pub mod Section
+pub mod Sections
+pub mod Tune
+pub mod VoiceSteps
+pub mod WithoutMarks

@@ -1,0 +1,13 @@
+pub mod Holds
+pub mod LayerItems
+pub mod Layers
+pub mod OpeningVoice
+pub mod OwnItems
+pub mod Roles
+pub mod TextState
+pub mod TextStep
+pub mod TextWalk
+pub mod TrackNames
+pub mod VoiceItems
+pub mod Names
+pub mod VoiceTable
