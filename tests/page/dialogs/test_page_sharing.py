@@ -1,8 +1,9 @@
 """Someone who shares a tune of the page of a server."""
 
 import test_page_in_browser
-from test_sharing import ADDRESS, HAS_CODES
+from test_sharing import ADDRESS
 
+HAS_CODE = "return document.querySelectorAll('#share-code svg path').length === 1"
 LINK = "return document.getElementById('share-link').value"
 TEXT = """
 const [link, done] = arguments;
@@ -28,10 +29,7 @@ class Sharing(test_page_in_browser.Browser):
         self.assertTrue(link.startswith(f"{ADDRESS}#abc"))
         self.assertEqual(self.driver.execute_async_script(TEXT, link), "M:3/4\n\nX:2\nT:Two\nK:D\nD|\n")
         self.assertIn("tune 2, Two", self.text("share-words"))
-        if HAS_CODES:
-            self.wait(lambda: self.run_script("return document.querySelectorAll('#share-code svg path').length") == 1)
-        else:
-            self.wait(lambda: "install segno" in self.text("share-code"))
+        self.wait(lambda: self.run_script(HAS_CODE) or "install segno" in self.text("share-code"))
         self.driver.find_element("id", "share-close").click()
         self.load()
         self.open()
